@@ -1,0 +1,4 @@
+pub mod Exact
+pub mod Digits
+pub mod Rows
+pub mod Named

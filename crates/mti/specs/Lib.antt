@@ -1,0 +1,5 @@
+pub mod Exactly
+pub mod Precisions
+pub mod Channels
+pub mod Table
+pub mod Identifiers
