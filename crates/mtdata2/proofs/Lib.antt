@@ -1,2 +1,4 @@
 pub mod Cutting
 pub mod Runs
+pub mod Frames
+pub mod Rounds

@@ -89,9 +89,9 @@ enough (suc n) zero p (x ∷ xs) h k = absurd (omega arith)
 enough (suc n) (suc m) p (x ∷ xs) h k =
     and-same (cutOf p (x ∷ xs)) _ _
     (λ q e.
-        let s = cut-shorter p (x ∷ xs) q e in
-        ap (λ r. andThen r (λ items. Ok (q .0 ∷ items)))
-        (enough n m (p + (length (x ∷ xs) - length (q .1))) (q .1) (omega arith) (omega arith)))
+    let s = cut-shorter p (x ∷ xs) q e in
+    ap (λ r. andThen r (λ items. Ok (q .0 ∷ items)))
+    (enough n m (p + (length (x ∷ xs) - length (q .1))) (q .1) (omega arith) (omega arith)))
 
 -- one packet on, what is left decides
 step : (p : ℕ) (xs : List ℕ) (q : Item × List ℕ) → cutOf p xs ≡ Ok q → done (packetsFrom (length (q .1)) (p + (length xs - length (q .1))) (q .1)) ≡ done (packetsFrom (length xs) p xs)

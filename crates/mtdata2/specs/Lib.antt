@@ -1,3 +1,4 @@
 pub mod Faults
 pub mod Packets
 pub mod Reading
+pub mod Words

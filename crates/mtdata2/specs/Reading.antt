@@ -1,20 +1,17 @@
 -- Reading one data message that is handed in whole.
-use mathlib.Core.Path.{_≡_}
 use mathlib.Core.Bool.{cond, _&&_}
 use mathlib.Core.List.{List, [], _∷_}
-use Prim.Native.Nat.{ℕ, _+_, _-_, _*_, _%_, _≤_, _<_}
+use Prim.Native.Nat.{ℕ, _+_, _-_, _*_, _%_}
 use lib.Dec.{eqb, leb}
 use lib.ListN.{length, take, drop}
-use Rattle.std.specs.Joined.{joined}
 use Rattle.std.specs.declared.result.Result.{Result}
 use Rattle.std.specs.declared.result.Result.the-variants.{Ok, Err}
 use Rattle.xbus.specs.Front.{total}
-use Rattle.xbus.specs.Frames.{encoded}
 use Rattle.mtdata2.specs.declared.fault.Fault.{Fault}
 use Rattle.mtdata2.specs.declared.frame.Body.{Body}
 use Rattle.mtdata2.specs.declared.message.Message.{Message}
 use Rattle.mtdata2.specs.Faults.{Report, reported, frameFault, messageFault, andThen}
-use Rattle.mtdata2.specs.Packets.{Item, packetBytes, EachWellFormed, packetsFrom, handedOut}
+use Rattle.mtdata2.specs.Packets.{Item, packetsFrom, handedOut}
 
 -- a frame's address, identifier, where its data start, and its data
 pub record Parts : Type 0 where
@@ -30,8 +27,8 @@ abbrev pub bodyOf : ℕ → ℕ → ℕ → ℕ → List ℕ → Result Parts Re
 bodyOf a i start n xs =
     cond (eqb (length xs) (start + n + 1))
     (cond (eqb (total (drop 1 xs) % 256) 0)
-     (Ok (record { address = a; identifier = i; start = start; content = take n (drop start xs) }))
-     (frameFault 17 (length xs - 1)))
+    (Ok (record { address = a; identifier = i; start = start; content = take n (drop start xs) }))
+    (frameFault 17 (length xs - 1)))
     (frameFault 15 (length xs))
 
 -- xs is FA, an address, an identifier, FF and then the list in front
@@ -67,24 +64,6 @@ messageOf xs = andThen (frameOf xs) addressed
 -- the packets of a data message, or its first fault
 abbrev pub readOf : List ℕ → Result (List Item) Report
 readOf xs = andThen (messageOf xs) (λ m. packetsFrom (length (m .content)) (m .start) (m .content))
-
--- ---- in the words of the protocol
-
--- the bytes of the data message that holds these packets
-abbrev pub messageBytes : List Item → List ℕ
-messageBytes items = encoded 0xFF 0x36 (joined packetBytes items)
-
--- xs is the data message of these packets: at least one, all well-formed, and not too long for a frame
-pub record MessageOf (xs : List ℕ) (items : List Item) : Type 0 where
-  pub some : 0 < length items
-  pub well-formed : EachWellFormed items
-  pub short : length (joined packetBytes items) ≤ 2048
-  pub is : xs ≡ messageBytes items
-
--- a message is accepted exactly if it is that of some packets, and then these are read
-pub record Accepted (xs : List ℕ) : Type 0 where
-  pub sound : (items : List Item) → readOf xs ≡ Ok items → MessageOf xs items
-  pub complete : (items : List Item) → MessageOf xs items → readOf xs ≡ Ok items
 
 -- ---- as the code has it
 

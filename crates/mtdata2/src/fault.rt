@@ -60,7 +60,10 @@ impl Fault {
         ensures { λ r. ⌜ r ≡ layerOf (now (self .entry) .reason) ⌝ }
     {
         match self.reason {
-            Reason::NoStart | Reason::WrongLength | Reason::LengthRuledOut | Reason::WrongChecksum => Layer::Frame,
+            Reason::NoStart
+            | Reason::WrongLength
+            | Reason::LengthRuledOut
+            | Reason::WrongChecksum => Layer::Frame,
             Reason::NotDataMessage | Reason::NoPacket => Layer::Message,
             Reason::HeaderCut | Reason::ContentCut | Reason::WrongSize => Layer::Packet,
         }

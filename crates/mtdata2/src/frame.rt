@@ -9,6 +9,7 @@ use xbus::MOST_DATA;
 use xbus::sum;
 
 const START: u8 = 0xFA;
+
 const EXTENDED: u8 = 0xFF;
 
 // The parts of a frame, and where its data start.
@@ -21,7 +22,13 @@ pub(crate) struct Body<'a> {
 }
 
 // The parts of a frame whose header says that its data begin at `start` and have `size` bytes.
-fn read_body(input: &[u8], address: u8, identifier: u8, start: usize, size: usize) -> Result<Body<'_>, Fault>
+fn read_body(
+    input: &[u8],
+    address: u8,
+    identifier: u8,
+    start: usize,
+    size: usize,
+) -> Result<Body<'_>, Fault>
     requires { ⌜ start ≤ 6 ⌝ ∗ ⌜ size < 65536 ⌝ ∗ ⌜ 0 < start ⌝ }
     ensures { λ r. ⌜ seenBody r ≡ bodyOf address identifier start size (now (input .entry)) ⌝ }
 {
@@ -50,7 +57,11 @@ pub(crate) fn read_frame(input: &[u8]) -> Result<Body<'_>, Fault>
     ensures { λ r. ⌜ seenBody r ≡ frameOf (now (input .entry)) ⌝ }
 {
     match input {
-        [START] | [START, _] | [START, _, _] | [START, _, _, EXTENDED] | [START, _, _, EXTENDED, _] => Err(Fault {
+        [START]
+        | [START, _]
+        | [START, _, _]
+        | [START, _, _, EXTENDED]
+        | [START, _, _, EXTENDED, _] => Err(Fault {
             reason: Reason::WrongLength,
             place: input.len(),
         }),
@@ -64,7 +75,13 @@ pub(crate) fn read_frame(input: &[u8]) -> Result<Body<'_>, Fault>
             }
             read_body(input, *address, *identifier, 6, size)
         }
-        [START, address, identifier, size, ..] => read_body(input, *address, *identifier, 4, usize::from(*size)),
+        [START, address, identifier, size, ..] => read_body(
+            input,
+            *address,
+            *identifier,
+            4,
+            usize::from(*size),
+        ),
         _ => Err(Fault {
             reason: Reason::NoStart,
             place: 0,

@@ -1,7 +1,8 @@
 // Reading a data message that is handed in whole.
 ghost use mathlib.Core.Path.{_≡_};
 ghost use Rattle.mtdata2.specs.Packets.{handedOut};
-ghost use Rattle.mtdata2.specs.Reading.{seenBody, messageOf, readOf, seenMessage, Accepted};
+ghost use Rattle.mtdata2.specs.Reading.{seenBody, messageOf, readOf, seenMessage};
+ghost use Rattle.mtdata2.specs.Words.{ReadSaid};
 use crate::fault::Fault;
 use crate::fault::Reason;
 use crate::frame::Body;
@@ -10,6 +11,7 @@ use crate::packet::Packets;
 use crate::packet::check_packets;
 
 const DATA_ADDRESS: u8 = 0xFF;
+
 const DATA_IDENTIFIER: u8 = 0x36;
 
 // A data message whose packets are all right.
@@ -47,6 +49,7 @@ fn read_message(input: &[u8]) -> Result<Body<'_>, Fault>
 // Reads a data message that is handed in whole, or finds its first fault.
 pub fn read(input: &[u8]) -> Result<Message<'_>, Fault>
     ensures value { λ r. ⌜ seenMessage r ≡ readOf (now (input .entry)) ⌝ }
+    ensures said { λ _. ⌜ ReadSaid (now (input .entry)) ⌝ }
 {
     let body = read_message(input)?;
     check_packets(body.content, body.start)?;

@@ -34,10 +34,19 @@ fn packet_of(identifier: u16, content: &[u8]) -> Packet<'_>
 {
     match known(identifier) {
         Some(output) => match output.channel.kind {
-            Kind::Real(_) => Packet::Real { identifier, content },
-            Kind::Whole(_) => Packet::Whole { identifier, content },
+            Kind::Real(_) => Packet::Real {
+                identifier,
+                content,
+            },
+            Kind::Whole(_) => Packet::Whole {
+                identifier,
+                content,
+            },
         },
-        None => Packet::Unknown { identifier, content },
+        None => Packet::Unknown {
+            identifier,
+            content,
+        },
     }
 }
 
