@@ -116,9 +116,11 @@ row-found n (x ∷ cs) t c (suc k) h e =
     cond-false _ _ _ (ne-eqb _ _ other) ∙ row-found (x .identifier) cs (p .2) c k (omega arith) e
 
 pub channel-of-row : (c : Channel) → Row c → channelOf (c .identifier) ≡ Some c
+unfolding channelOf
 channel-of-row c h = row-found 0 channels table-orderly c (h .0) (h .1) (h .2 c)
 
 pub row-of-channel : (i : ℕ) (c : Channel) → channelOf i ≡ Some c → Bearer i c
+unfolding channelOf
 row-of-channel i c e = found-bears i channels c e
 
 pub channel-exactly : (i : ℕ) (r : Option Channel) → r ≡ channelOf i → Exactly (Bearer i) r

@@ -66,5 +66,5 @@ firstOf i [] = None
 firstOf i (c ∷ cs) = cond (eqb (c .identifier) i) (Some c) (firstOf i cs)
 
 -- the channel of an identifier whose format digit is 0
-abbrev pub channelOf : ℕ → Option Channel
+unfoldable pub channelOf : ℕ → Option Channel
 channelOf i = firstOf i channels
