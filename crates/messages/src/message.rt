@@ -25,9 +25,18 @@ fn print_fault(rt: &LibcRuntime, fault: Fault) -> Result<(), AnyError> {
 
 fn print_packet(rt: &LibcRuntime, packet: Packet<'_>) -> Result<(), AnyError> {
     let (identifier, kind, content) = match packet {
-        Packet::Real { identifier, content } => (identifier, "real", content),
-        Packet::Whole { identifier, content } => (identifier, "whole", content),
-        Packet::Unknown { identifier, content } => (identifier, "unknown", content),
+        Packet::Real {
+            identifier,
+            content,
+        } => (identifier, "real", content),
+        Packet::Whole {
+            identifier,
+            content,
+        } => (identifier, "whole", content),
+        Packet::Unknown {
+            identifier,
+            content,
+        } => (identifier, "unknown", content),
     };
     let size = content.len();
     let mut line = format!(rt.alloc(), "packet {identifier:04X} {kind} {size}")?;

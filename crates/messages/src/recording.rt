@@ -1,9 +1,9 @@
 // A recording: its frames, the bytes dropped and what is left.
 use lines::push_bytes;
 use std::error::AnyError;
-use xbus::Piece;
-use xbus::PiecesIterator;
-use xbus::read_recording;
+use stream::Piece;
+use stream::PiecesIterator;
+use stream::read_recording;
 
 // A word and the bytes behind it.
 fn print_bytes(rt: &LibcRuntime, word: &str, bytes: &[u8]) -> Result<(), AnyError> {

@@ -9,8 +9,8 @@ use lib.Dec.{eqb, leb}
 use lib.ListN.{length, getD, take, drop}
 use Rattle.std.specs.declared.result.Result.{Result}
 use Rattle.std.specs.declared.result.Result.the-variants.{Ok, Err}
-use Rattle.std.proofs.shelf.Lists.{append-assoc, length-append, length-take-le, take-all, take-at, take-more, drop-at}
-use Rattle.std.proofs.shelf.Tests.{leb-true, leb-false, eqb-true, eqb-false, eq-eqb, le-leb, lt-leb, cond-true, cond-false, cases-lt, cases-bool, and-parts, and-cases, and-from}
+use Rattle.std.proofs.shelf.Lists.{append-assoc, length-append, length-take-le, take-all, take-at, take-more, take-rest, drop-at}
+use Rattle.std.proofs.shelf.Tests.{leb-true, leb-false, eqb-true, eqb-false, eq-eqb, ne-eqb, le-leb, lt-leb, cond-true, cond-false, cases-lt, cases-bool, and-parts, and-cases, and-from}
 use Rattle.xbus.specs.Numbers.{Bytes}
 use Rattle.xbus.specs.Front.{total}
 use Rattle.xbus.specs.Frames.{headerOf, checksum, enclosed, encoded}
@@ -165,3 +165,21 @@ frame-back a i d h =
     subst P (sym (length-is-long n l h))
     (cond-true (leb 255 v && leb v 2048) _ _ fit ∙ ap (λ k. bodyOf a i 6 k (enclosed (hd ++ d))) same ∙ body-back hd d a i 6 refl))
     (cases-lt n 255)
+
+-- ---- as the code has it: `&input[1..]` and `&input[start..start + n]`
+
+module _ (a i start n : ℕ) (xs : List ℕ) (s : ℕ) (size : length xs ≡ start + n + 1) (summed : s ≡ total (take (length xs - 1) (drop 1 xs)) % 256) where
+  sum-is : s ≡ total (drop 1 xs) % 256
+  sum-is = summed ∙ ap (λ l. total l % 256) (take-rest xs 1)
+
+  sized : bodyOf a i start n xs ≡ cond (eqb (total (drop 1 xs) % 256) 0) (Ok (record { address = a; identifier = i; start = start; content = take n (drop start xs) })) (frameFault 17 (length xs - 1))
+  sized = cond-true (eqb (length xs) (start + n + 1)) _ _ (eq-eqb _ _ size)
+
+  pub body-unsealed : (s ≡ 0 → ⊥) → frameFault 17 (length xs - 1) ≡ bodyOf a i start n xs
+  body-unsealed h = sym (sized ∙ cond-false (eqb (total (drop 1 xs) % 256) 0) _ _ (ne-eqb _ 0 (λ z. h (sum-is ∙ z))))
+
+  pub body-sealed : (content : List ℕ) → s ≡ 0 → content ≡ take (start + n - start) (drop start xs) → Ok (record { address = a; identifier = i; start = start; content = content }) ≡ bodyOf a i start n xs
+  body-sealed content z c =
+      let k : start + n - start ≡ n = omega arith in
+      ap (λ l. Ok (record { address = a; identifier = i; start = start; content = l })) (c ∙ ap (λ m. take m (drop start xs)) k)
+      ∙ sym (sized ∙ cond-true (eqb (total (drop 1 xs) % 256) 0) _ _ (eq-eqb _ 0 (sym sum-is ∙ z)))

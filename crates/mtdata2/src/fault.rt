@@ -3,14 +3,14 @@ ghost use mathlib.Core.Path.{_≡_};
 ghost use Rattle.mtdata2.specs.Faults.{numberOf, layerOf};
 
 // Where reading was when it found a fault.
-#[derive(Clone, Copy, Debug, PartialEq)]
+#[derive(Clone, Copy)]
 pub enum Layer {
     Frame,
     Message,
     Packet,
 }
 
-#[derive(Clone, Copy, Debug, PartialEq)]
+#[derive(Clone, Copy)]
 pub enum Reason {
     // the first byte is not FA, or there is none
     NoStart,
@@ -33,7 +33,7 @@ pub enum Reason {
 }
 
 // A fault and its place, an index in the input.
-#[derive(Clone, Copy, Debug, PartialEq)]
+#[derive(Clone, Copy)]
 pub struct Fault {
     pub reason: Reason,
     pub place: usize,

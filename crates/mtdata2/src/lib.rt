@@ -5,14 +5,8 @@ mod message;
 mod packet;
 
 pub use fault::Fault;
-pub use fault::FaultDebug;
-pub use fault::FaultPartialEq;
 pub use fault::Layer;
-pub use fault::LayerDebug;
-pub use fault::LayerPartialEq;
 pub use fault::Reason;
-pub use fault::ReasonDebug;
-pub use fault::ReasonPartialEq;
 pub use message::Message;
 pub use message::read;
 pub use packet::Packet;

@@ -15,7 +15,7 @@ const DATA_ADDRESS: u8 = 0xFF;
 const DATA_IDENTIFIER: u8 = 0x36;
 
 // A data message whose packets are all right.
-#[derive(Clone, Copy, Debug)]
+#[derive(Clone, Copy)]
 pub struct Message<'a> {
     content: &'a [u8],
 }

@@ -12,7 +12,7 @@ use mti::data_size;
 use mti::known;
 
 // A packet with its identifier and its data: real numbers, a whole number, or of an unknown identifier.
-#[derive(Clone, Copy, Debug)]
+#[derive(Clone, Copy)]
 pub enum Packet<'a> {
     Real { identifier: u16, content: &'a [u8] },
     Whole { identifier: u16, content: &'a [u8] },
@@ -103,7 +103,7 @@ pub fn next_packet(rest: &[u8]) -> Option<(Packet<'_>, &[u8])>
 }
 
 // The packets that are left.
-#[derive(Clone, Copy, Debug)]
+#[derive(Clone, Copy)]
 pub struct Packets<'a> {
     pub(crate) rest: &'a [u8],
 }

@@ -3,10 +3,5 @@ pub mod Totals
 pub mod Widths
 pub mod Fronts
 pub mod Cases
-pub mod Settles
 pub mod Splits
-pub mod Keeps
-pub mod Holds
 pub mod Writes
-pub mod Readings
-pub mod Nexts

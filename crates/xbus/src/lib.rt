@@ -1,16 +1,12 @@
-// Xbus frames: what stands at the front of a list of bytes, the bytes that wait, reading and writing.
-mod buffer;
+// Xbus frames: numbers and checksum, what stands at the front of a list of bytes, the parts of a frame, writing one.
 mod front;
 mod numbers;
 mod parts;
-mod reading;
-mod settling;
-mod waiting;
 mod writing;
 
-pub use buffer::LONGEST;
-pub use buffer::Waiting;
 pub use front::Front;
+pub use front::FrontDebug;
+pub use front::FrontPartialEq;
 pub use front::MOST_DATA;
 pub use front::at_front;
 pub use front::sum;
@@ -18,13 +14,5 @@ pub use numbers::number;
 pub use numbers::put_number;
 pub use parts::Frame;
 pub use parts::first_frame;
-pub use reading::Piece;
-pub use reading::Pieces;
-pub use reading::PiecesIterator;
-pub use reading::next_piece;
-pub use reading::read_recording;
-pub use settling::Settled;
-pub use settling::settle;
-pub use waiting::FrameWaits;
 pub use writing::WriteError;
 pub use writing::write_frame;

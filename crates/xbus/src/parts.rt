@@ -9,7 +9,7 @@ use crate::front::Front;
 use crate::front::classify;
 
 // A frame's address, identifier and data, which is a part of the bytes read.
-#[derive(Clone, Copy, Debug)]
+#[derive(Clone, Copy)]
 pub struct Frame<'a> {
     pub address: u8,
     pub identifier: u8,
@@ -17,7 +17,7 @@ pub struct Frame<'a> {
 }
 
 // The parts of a frame that is whole.
-pub(crate) fn split_frame(frame: &[u8]) -> Frame<'_>
+fn split_frame(frame: &[u8]) -> Frame<'_>
     requires { ⌜ 5 ≤ length (now frame) ⌝ ∗ ⌜ around (now frame) ≤ length (now frame) ⌝ }
     ensures { λ r. ⌜ seen r ≡ partsOf (now (frame .entry)) ⌝ }
 {

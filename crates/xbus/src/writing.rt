@@ -13,7 +13,7 @@ use crate::front::sum;
 use crate::numbers::put_number;
 use crate::parts::Frame;
 
-#[derive(Clone, Copy, Debug, PartialEq)]
+#[derive(Clone, Copy)]
 pub enum WriteError {
     // more than 2,048 data bytes
     TooLong,

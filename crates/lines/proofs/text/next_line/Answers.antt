@@ -1,10 +1,7 @@
 -- The first line and the rest of a text.
-use mathlib.Core.Path.{_≡_, ap, _∙_}
-use lib.ListN.{drop}
 use borrow.Author.Needs.{needs}
 use Rattle.std.specs.declared.option.Option.the-variants.{Some}
-use Rattle.std.proofs.shelf.Lists.{nil-from-length, take-rest}
-use Rattle.lines.specs.Lines.{withoutReturn}
+use Rattle.std.proofs.shelf.Lists.{nil-from-length}
 use Rattle.lines.proofs.LineParts.{line-cases, lines-cases, line-is}
 use Rattle.lines.proofs.text.next_line.Needs as need
 
@@ -15,7 +12,7 @@ returns-then-is-empty c =
 
 pub returns : need.returns
 returns c =
-    let v = line-is (c .args .text .now) (c .without-return .result) (c .behind-first .result) (search needs) (cc) (cc) in
+    let v = line-is (c .args .text .now) (c .without-return .result) (c .behind-first .result) (search needs) (search needs) (search needs) in
     record {
       value = v;
       parts = line-cases (Some (c .without-return .result, c .behind-first .result)) (c .args .text .now) v;

@@ -1,10 +1,9 @@
 -- The first word and the rest of a line.
-use mathlib.Core.Path.{_≡_, ap, sym, _∙_}
-use mathlib.Core.List.{[]}
+use mathlib.Core.Path.{ap, sym, _∙_}
 use borrow.Author.Needs.{needs}
 use Rattle.std.specs.declared.option.Option.the-variants.{Some, None}
 use Rattle.std.proofs.shelf.Lists.{nil-from-length}
-use Rattle.lines.specs.Words.{wordAt, pastSpaces}
+use Rattle.lines.specs.Words.{wordAt}
 use Rattle.lines.proofs.WordParts.{word-is, word-cases, words-cases}
 use Rattle.lines.proofs.words.next_word.Needs as need
 
@@ -16,5 +15,5 @@ returns-then-is-empty c =
 
 pub returns : need.returns
 returns c =
-    let v = word-is (c .args .line .now) (c .cut .result) (c .past-spaces-rest .result .now) (c .past-spaces-rest .ensures) (search needs) (cc) (cc) in
+    let v = word-is (c .args .line .now) (c .cut .result) (c .past-spaces-rest .result .now) (c .past-spaces-rest .ensures) (search needs) (search needs) (search needs) in
     record { value = v; parts = word-cases (Some (c .cut .result)) (c .args .line .now) v; words = words-cases (Some (c .cut .result)) (c .args .line .now) v }

@@ -1,0 +1,5 @@
+pub mod Settles
+pub mod Keeps
+pub mod Holds
+pub mod Readings
+pub mod Nexts

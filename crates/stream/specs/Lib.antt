@@ -1,0 +1,3 @@
+pub mod Settling
+pub mod Waiting
+pub mod Reading
