@@ -6,9 +6,9 @@ use crate::channels::{self, Known};
 use crate::frames;
 
 /// The address of a data message.
-const ADDRESS: u8 = 0xFF;
+pub const ADDRESS: u8 = 0xFF;
 /// The message identifier of a data message.
-const IDENTIFIER: u8 = 0x36;
+pub const IDENTIFIER: u8 = 0x36;
 /// The bytes of a packet in front of its data: identifier and size.
 const PACKET_HEADER: usize = 3;
 /// Where the size stands in a packet.

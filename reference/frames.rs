@@ -68,13 +68,29 @@ fn agrees(bytes: &[u8], count: u16) -> bool {
         .all(|(said, expected)| said == expected)
 }
 
-/// Whether the bytes after `FA`, the checksum included, sum to 0 modulo 256.
-pub fn checksum_is_right(frame: &[u8]) -> bool {
+/// The sum of the bytes after `FA`, modulo 256.
+fn sum_behind_start(frame: &[u8]) -> u8 {
     frame
         .iter()
         .skip(1)
-        .fold(0_u8, |sum, &byte| sum.wrapping_add(byte))
-        == 0
+        .fold(0, |sum: u8, &byte| sum.wrapping_add(byte))
+}
+
+/// Whether the bytes after `FA`, the checksum included, sum to 0 modulo 256.
+pub fn checksum_is_right(frame: &[u8]) -> bool {
+    sum_behind_start(frame) == 0
+}
+
+/// The frame with these data, or nothing if they are too long.
+pub fn write(address: u8, identifier: u8, data: &[u8]) -> Option<Vec<u8>> {
+    let count = u16::try_from(data.len())
+        .ok()
+        .filter(|&count| count <= LONGEST_DATA)?;
+    let mut frame = vec![START, address, identifier];
+    frame.extend(Length::of(count).bytes());
+    frame.extend(data);
+    frame.push(sum_behind_start(&frame).wrapping_neg());
+    Some(frame)
 }
 
 /// What stands at the front of a list of bytes.
@@ -236,6 +252,18 @@ pub mod tests {
     fn sizes_of_frames() {
         for (count, size) in [(0, 5), (254, 259), (255, 262), (2048, 2055)] {
             assert_eq!(frame_size(count), size);
+        }
+    }
+
+    #[test]
+    fn frames_are_written_up_to_the_longest() {
+        let mut noise = Noise::new(8);
+        for count in 0..=2048 {
+            let data = noise.bytes(count);
+            assert_eq!(write(1, 2, &data), Some(frame(1, 2, &data)));
+        }
+        for count in [2049, 65535, 65536, 65537, 70000] {
+            assert_eq!(write(1, 2, &vec![0; count]), None);
         }
     }
 

@@ -1,5 +1,5 @@
-//! What all programs have in common: lines of input, words and hexadecimal bytes
-//! (docs/BENCH.md).
+//! What all programs have in common: lines of input, words, hexadecimal bytes and decimal
+//! numbers (docs/BENCH.md).
 
 use std::io::{self, BufRead, Write};
 
@@ -8,6 +8,8 @@ use std::io::{self, BufRead, Write};
 pub enum NotUnderstood {
     UnknownCommand,
     NotAByte,
+    NotAPacket,
+    NotANumber,
 }
 
 impl NotUnderstood {
@@ -15,6 +17,8 @@ impl NotUnderstood {
         match self {
             NotUnderstood::UnknownCommand => "unknown command",
             NotUnderstood::NotAByte => "not a byte",
+            NotUnderstood::NotAPacket => "not a packet",
+            NotUnderstood::NotANumber => "not a number",
         }
     }
 }
@@ -77,7 +81,13 @@ pub fn bytes(words: &[&[u8]]) -> Result<Vec<u8>, NotUnderstood> {
         .collect()
 }
 
-fn byte(word: &[u8]) -> Option<u8> {
+/// The bytes that a word of pairs of hexadecimal digits is.
+pub fn bytes_in_one(word: &[u8]) -> Option<Vec<u8>> {
+    word.chunks(2).map(byte).collect()
+}
+
+/// The byte that a pair of hexadecimal digits is.
+pub fn byte(word: &[u8]) -> Option<u8> {
     match *word {
         [high, low] => Some(16 * digit(high)? + digit(low)?),
         _ => None,
@@ -94,15 +104,44 @@ fn digit(character: u8) -> Option<u8> {
     }
 }
 
+/// The number below 2^64 that a word of decimal digits is.
+pub fn decimal(word: &[u8]) -> Option<u64> {
+    if word.is_empty() {
+        return None;
+    }
+    word.iter().try_fold(0_u64, |number, &character| {
+        let value = character.is_ascii_digit().then(|| character - b'0')?;
+        number.checked_mul(10)?.checked_add(u64::from(value))
+    })
+}
+
+/// The number that a word of decimal digits is, with a minus sign in front or without. The
+/// digits stand for a number below 2^63.
+pub fn signed_decimal(word: &[u8]) -> Option<i64> {
+    let magnitude = |digits| decimal(digits).and_then(|number| i64::try_from(number).ok());
+    match word.strip_prefix(b"-") {
+        Some(digits) => magnitude(digits).map(|number| -number),
+        None => magnitude(word),
+    }
+}
+
+/// The bytes as upper-case pairs with nothing between.
+pub fn hex(bytes: &[u8]) -> String {
+    bytes.iter().flat_map(|&byte| pair(byte)).collect()
+}
+
 /// The bytes as upper-case pairs, each with one space in front.
 pub fn spaced_hex(bytes: &[u8]) -> String {
     let mut text = String::with_capacity(3 * bytes.len());
-    for byte in bytes {
+    for &byte in bytes {
         text.push(' ');
-        text.push(digit_character(byte >> 4));
-        text.push(digit_character(byte & 0x0F));
+        text.extend(pair(byte));
     }
     text
+}
+
+fn pair(byte: u8) -> [char; 2] {
+    [byte >> 4, byte & 0x0F].map(digit_character)
 }
 
 fn digit_character(value: u8) -> char {
@@ -157,6 +196,51 @@ mod tests {
         assert_eq!(pairs, 22 * 22);
         for word in ["", "F", "FAF", "0xFA", "+F", "G0"] {
             assert_eq!(byte(word.as_bytes()), None);
+        }
+    }
+
+    #[test]
+    fn bytes_in_one_word() {
+        assert_eq!(bytes_in_one(b""), Some(vec![]));
+        assert_eq!(bytes_in_one(b"fA0910"), Some(vec![0xFA, 9, 0x10]));
+        for word in ["F", "FA1", "FA 1", "0xFA", "+F"] {
+            assert_eq!(bytes_in_one(word.as_bytes()), None);
+        }
+        assert_eq!(hex(&[]), "");
+        assert_eq!(hex(&[0xFA, 9, 0x10]), "FA0910");
+    }
+
+    #[test]
+    fn decimal_numbers() {
+        for (word, number) in [
+            ("0", 0),
+            ("007", 7),
+            ("18446744073709551615", u64::MAX),
+            ("000000000000000000000000000001", 1),
+        ] {
+            assert_eq!(decimal(word.as_bytes()), Some(number));
+        }
+        let others = ["", "-0", "-1", "+1", "1a", "0x1", "1.0", "1_0", "\u{663}"];
+        for word in others.iter().chain(&["18446744073709551616", "1\t"]) {
+            assert_eq!(decimal(word.as_bytes()), None, "{word}");
+        }
+    }
+
+    #[test]
+    fn signed_decimal_numbers() {
+        for (word, number) in [
+            ("0", 0),
+            ("-0", 0),
+            ("-01", -1),
+            ("9223372036854775807", i64::MAX),
+            ("-9223372036854775807", -i64::MAX),
+        ] {
+            assert_eq!(signed_decimal(word.as_bytes()), Some(number));
+        }
+        let others = ["", "-", "--1", "+1", "-+1", "1-", "- 1", "\u{2212}1"];
+        let too_many = ["9223372036854775808", "-9223372036854775808"];
+        for word in others.iter().chain(&too_many) {
+            assert_eq!(signed_decimal(word.as_bytes()), None, "{word}");
         }
     }
 

@@ -6,10 +6,12 @@
 //! The first argument names the program: `reference messages`.
 
 mod channels;
+mod compose;
 mod data_message;
 mod frames;
 mod lines;
 mod messages;
+mod readings;
 
 use std::env;
 use std::ffi::OsStr;

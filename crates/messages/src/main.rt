@@ -1,21 +1,28 @@
-// Prints what recordings and data messages hold: a line `f` with the bytes of a recording, a line `r` with one data message.
+// Prints what recordings and data messages hold, composes data messages, and shows readings in four precisions.
+mod composed;
 mod message;
+mod reading;
 mod recording;
 
+use composed::print_composed;
 use lines::LineFault;
 use lines::bytes_of;
 use lines::next_line;
 use lines::next_word;
 use message::print_message;
+use reading::print_many;
+use reading::print_reading;
 use recording::print_recording;
 use std::error::AnyError;
 use std::io::Read;
 
 // Why a line is not understood.
 #[derive(Drop)]
-enum Misread {
+pub enum Misread {
     UnknownCommand,
     NotAByte,
+    NotAPacket,
+    NotANumber,
 }
 
 impl Misread {
@@ -23,8 +30,25 @@ impl Misread {
         match self {
             Misread::UnknownCommand => "unknown command",
             Misread::NotAByte => "not a byte",
+            Misread::NotAPacket => "not a packet",
+            Misread::NotANumber => "not a number",
         }
     }
+}
+
+// Prints what a recording (`f`) or a data message (`r`) holds.
+fn answer_bytes(rt: &LibcRuntime, recording: bool, line: &[u8]) -> Result<Option<Misread>, AnyError> {
+    let bytes = match bytes_of(rt.alloc(), line) {
+        Ok(bytes) => bytes,
+        Err(LineFault::NotAByte) => return Ok(Some(Misread::NotAByte)),
+        Err(LineFault::Memory) => return Err("no memory".into()),
+    };
+    if recording {
+        print_recording(rt, bytes.as_slice())?;
+    } else {
+        print_message(rt, bytes.as_slice())?;
+    }
+    Ok(None)
 }
 
 // Does what a line asks for, or says why not.
@@ -32,20 +56,14 @@ fn answer(rt: &LibcRuntime, line: &[u8]) -> Result<Option<Misread>, AnyError> {
     let Some((command, rest)) = next_word(line) else {
         return Ok(None);
     };
-    if command != b"f" && command != b"r" {
-        return Ok(Some(Misread::UnknownCommand));
+    match command {
+        b"f" => answer_bytes(rt, true, rest),
+        b"r" => answer_bytes(rt, false, rest),
+        b"c" => print_composed(rt, rest),
+        b"v" => print_reading(rt, rest),
+        b"n" => print_many(rt, rest),
+        _ => Ok(Some(Misread::UnknownCommand)),
     }
-    let bytes = match bytes_of(rt.alloc(), rest) {
-        Ok(bytes) => bytes,
-        Err(LineFault::NotAByte) => return Ok(Some(Misread::NotAByte)),
-        Err(LineFault::Memory) => return Err("no memory".into()),
-    };
-    if command == b"f" {
-        print_recording(rt, bytes.as_slice())?;
-    } else {
-        print_message(rt, bytes.as_slice())?;
-    }
-    Ok(None)
 }
 
 // Answers line by line, and says whether each line was understood.

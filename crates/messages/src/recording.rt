@@ -6,7 +6,7 @@ use stream::PiecesIterator;
 use stream::read_recording;
 
 // A word and the bytes behind it.
-fn print_bytes(rt: &LibcRuntime, word: &str, bytes: &[u8]) -> Result<(), AnyError> {
+pub fn print_bytes(rt: &LibcRuntime, word: &str, bytes: &[u8]) -> Result<(), AnyError> {
     let mut line = String::from_str(rt.alloc(), word)?;
     push_bytes(&mut line, bytes)?;
     rt.println(line.as_str())?;

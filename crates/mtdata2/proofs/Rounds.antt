@@ -27,11 +27,11 @@ use Rattle.mtdata2.proofs.Runs.{and-ok, not-ok, Good, good, good-cut, cut-shor
 
 -- ---- one packet
 
-fits-size : (o : Option ℕ) (n : ℕ) → fitsBy o n ≡ true → (s : ℕ) → o ≡ Some s → n ≡ s
+pub fits-size : (o : Option ℕ) (n : ℕ) → fitsBy o n ≡ true → (s : ℕ) → o ≡ Some s → n ≡ s
 fits-size None n t s e = let z : _≡_ {A = ℕ} 0 1 = cc in absurd (omega arith)
 fits-size (Some m) n t s e = let f : m ≡ s = cc in eqb-true n m t ∙ f
 
-size-fits : (o : Option ℕ) (n : ℕ) → ((s : ℕ) → o ≡ Some s → n ≡ s) → fitsBy o n ≡ true
+pub size-fits : (o : Option ℕ) (n : ℕ) → ((s : ℕ) → o ≡ Some s → n ≡ s) → fitsBy o n ≡ true
 size-fits None n h = refl
 size-fits (Some m) n h = eq-eqb n m (h m refl)
 
@@ -96,7 +96,7 @@ packets-back (suc k) p (i ∷ is) w h =
     ∙ ap (λ r. andThen r (λ items. Ok (i ∷ items)))
     (packets-back k (p + (length (packetBytes i ++ rest) - length rest)) is (w .1) (omega (arith, length-append (i .bytes) rest)))
 
-well-formed-push : (is : List Item) (i : Item) → EachWellFormed is → WellFormed i → EachWellFormed (is ++ (i ∷ []))
+pub well-formed-push : (is : List Item) (i : Item) → EachWellFormed is → WellFormed i → EachWellFormed (is ++ (i ∷ []))
 well-formed-push [] i ws w = (w, tt)
 well-formed-push (j ∷ is) i ws w = (ws .0, well-formed-push is i (ws .1) w)
 
@@ -262,7 +262,7 @@ told-read xs (Err f) t = t
 told : (xs : List ℕ) → Bytes xs → ReadTold xs (readOf xs)
 told xs bs = told-read xs (messageOf xs) (told-message xs (frameOf xs) (told-frame xs bs))
 
-accepts : (xs : List ℕ) (items : List Item) → MessageOf xs items → readOf xs ≡ Ok items
+pub accepts : (xs : List ℕ) (items : List Item) → MessageOf xs items → readOf xs ≡ Ok items
 accepts xs items m =
     let d : List ℕ = joined packetBytes items in
     let K : Parts → Result (List Item) Report = λ b. packetsFrom (length (b .content)) (b .start) (b .content) in

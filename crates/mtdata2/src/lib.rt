@@ -13,3 +13,4 @@ pub use packet::Packet;
 pub use packet::Packets;
 pub use packet::PacketsIterator;
 pub use packet::next_packet;
+pub use packet::size_fits;

@@ -19,8 +19,31 @@ pub enum Packet<'a> {
     Unknown { identifier: u16, content: &'a [u8] },
 }
 
+impl<'a> Packet<'a> {
+    pub fn identifier(&self) -> u16
+        ensures { λ r. ⌜ r ≡ item (now (self .entry)) .identifier ⌝ }
+    {
+        match self {
+            Packet::Real { identifier, .. } => *identifier,
+            Packet::Whole { identifier, .. } => *identifier,
+            Packet::Unknown { identifier, .. } => *identifier,
+        }
+    }
+
+    // The part of the input that holds its data.
+    pub fn content(&self) -> &'a [u8]
+        ensures { λ r. ⌜ now r ≡ item (now (self .entry)) .bytes ⌝ }
+    {
+        match self {
+            Packet::Real { content, .. } => content,
+            Packet::Whole { content, .. } => content,
+            Packet::Unknown { content, .. } => content,
+        }
+    }
+}
+
 // Whether a packet of this identifier may have so many data bytes.
-fn size_fits(identifier: u16, size: usize) -> bool
+pub fn size_fits(identifier: u16, size: usize) -> bool
     ensures { λ r. ⌜ r ≡ sizeFits identifier size ⌝ }
 {
     match data_size(identifier) {

@@ -15,4 +15,5 @@ pub use numbers::put_number;
 pub use parts::Frame;
 pub use parts::first_frame;
 pub use writing::WriteError;
+pub use writing::seal_frame;
 pub use writing::write_frame;

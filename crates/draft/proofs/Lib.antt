@@ -1,0 +1,4 @@
+pub mod Extends
+pub mod Holds
+pub mod Judges
+pub mod Recomposes

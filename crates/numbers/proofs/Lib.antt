@@ -1,0 +1,11 @@
+pub mod Ranges
+pub mod Bytes
+pub mod FixedPoint
+pub mod Quotients
+pub mod Near
+pub mod Fields
+pub mod Signs
+pub mod Picks
+pub mod Worths
+pub mod Rows
+pub mod Fronts
