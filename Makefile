@@ -14,6 +14,7 @@ quick: tools reference
 	@rt fmt --check
 	@scripts/stands-alone
 	@scripts/reference-agrees
+	@scripts/must-not-compile
 
 run: tools
 	@rt check messages >target/run.log 2>&1 || { cat target/run.log; exit 1; }

@@ -46,11 +46,13 @@ fn read_packet(word: &[u8], packets: &mut Packets) -> Result<bool, AnyError> {
     let place = packets.source.len();
     let read = read_pairs(digits, &mut packets.source)?;
     let size = packets.source.len().saturating_sub(place);
-    packets.records.push(Record {
-        identifier: u16::from_be_bytes([high, low]),
-        place,
-        size,
-    })?;
+    packets
+        .records
+        .push(Record {
+            identifier: u16::from_be_bytes([high, low]),
+            place,
+            size,
+        })?;
     Ok(read)
 }
 

@@ -37,7 +37,11 @@ impl Misread {
 }
 
 // Prints what a recording (`f`) or a data message (`r`) holds.
-fn answer_bytes(rt: &LibcRuntime, recording: bool, line: &[u8]) -> Result<Option<Misread>, AnyError> {
+fn answer_bytes(
+    rt: &LibcRuntime,
+    recording: bool,
+    line: &[u8],
+) -> Result<Option<Misread>, AnyError> {
     let bytes = match bytes_of(rt.alloc(), line) {
         Ok(bytes) => bytes,
         Err(LineFault::NotAByte) => return Ok(Some(Misread::NotAByte)),

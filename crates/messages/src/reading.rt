@@ -8,7 +8,12 @@ use numbers::put_real;
 use std::error::AnyError;
 use std::str;
 
-const PRECISIONS: [Precision; 4] = [Precision::Single, Precision::Fixed32, Precision::Fixed48, Precision::Double];
+const PRECISIONS: [Precision; 4] = [
+    Precision::Single,
+    Precision::Fixed32,
+    Precision::Fixed48,
+    Precision::Double,
+];
 
 // The most readings of one line.
 const MOST: u64 = 1_000_000;
@@ -98,7 +103,8 @@ fn hash_of(seed: u64, count: u64) -> u64 {
     let mut x = seed;
     let mut hash = 14_695_981_039_346_656_037u64;
     for _ in 0..count {
-        x = x.wrapping_mul(6_364_136_223_846_793_005).wrapping_add(1_442_695_040_888_963_407);
+        x = x.wrapping_mul(6_364_136_223_846_793_005)
+            .wrapping_add(1_442_695_040_888_963_407);
         hash = hashed_reading(hash, reading_of(x));
     }
     hash

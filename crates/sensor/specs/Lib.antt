@@ -1,0 +1,4 @@
+pub mod Questions
+pub mod Ranges
+pub mod Ramps
+pub mod Records
