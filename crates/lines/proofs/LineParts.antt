@@ -4,7 +4,7 @@ use Rattle.std.specs.Option.{option_map}
 use Rattle.std.specs.List.{AllByRecursion as All}
 use Rattle.std.proofs.lemmas.List.{append-nil, append_assoc, length-drop, length_push, same_from_push}
 use Rattle.std.proofs.lemmas.Bool.{eqb-true, eqb-false, eq-eqb, ne_eqb, cases_Bool, true≢false}
-use Rattle.lines.specs.Cuts.{before, from, pieces, seen}
+use Rattle.lines.specs.Cuts.{before, from, seen}
 use Rattle.lines.specs.Lines.{without_return, next_line, ended, lines_of, LineOf}
 use Rattle.lines.proofs.Cutting.{before_from, length_parts, none_before, behind, pieces_cut}
 

@@ -1,5 +1,5 @@
 -- What is printed reads back.
-use Rattle.std.proofs.Common.{◌≡◌, ℕ, ◌+◌, ◌*◌, ◌/◌, ◌%◌, ◌<◌, ◌≤◌, eqb, List, [], ◌∷◌, ◌++◌, map, length, get_or, take, Some, IsUtf8, sym, refl, ap, ◌∙◌, arith}
+use Rattle.std.proofs.Common.{◌≡◌, ℕ, ◌+◌, ◌/◌, ◌%◌, ◌<◌, List, [], ◌∷◌, ◌++◌, map, length, get_or, take, Some, IsUtf8, sym, refl, ap, ◌∙◌, arith}
 use Rattle.std.specs.List.{AllByRecursion as All}
 use Rattle.std.proofs.ByRecursion.{IsAscii-from_all}
 use Rattle.std.proofs.lemmas.List.{flat_map_more, take_more}
@@ -8,7 +8,7 @@ use Rattle.std.proofs.lemmas.Bool.{ne_eqb}
 use Rattle.std.proofs.lemmas.Bool.Decides.{nat_tests}
 use Rattle.lines.specs.Cuts.{before, from}
 use Rattle.lines.specs.Words.{past_spaces, word_at, words_of}
-use Rattle.lines.specs.Bytes.{hex_value, hex_digit, byte_of, digits_of, joined_to, bytes_in, printed, ReadsBack, CommandReadsBack}
+use Rattle.lines.specs.Bytes.{hex_digit, digits_of, joined_to, bytes_in, printed, ReadsBack, CommandReadsBack}
 use Rattle.lines.proofs.Pairs.{byte_of_digits}
 use Rattle.lines.proofs.WordParts.{words_first}
 

@@ -1,12 +1,12 @@
 -- The spaces, the first word and the rest are the line, and it is the first of all words.
-use Rattle.std.proofs.Common.{◌≡◌, ℕ, zero, suc, ◌+◌, ◌-◌, ◌<◌, ◌≤◌, Bool, true, false, cond, eqb, List, [], ◌∷◌, ◌++◌, length, get_or, take, drop, replicate, Some, None, filter, Option, sym, refl, ap, ◌∙◌, subst, ⊎_elim, arith, Bor, MatchOption}
+use Rattle.std.proofs.Common.{◌≡◌, ℕ, suc, ◌+◌, ◌-◌, ◌<◌, false, eqb, List, [], ◌∷◌, ◌++◌, length, get_or, take, drop, replicate, Some, None, filter, Option, sym, refl, ap, ◌∙◌, subst, ⊎_elim, arith, Bor, MatchOption}
 use Rattle.std.specs.Option.{option_map}
 use Rattle.std.specs.List.{AllByRecursion as All}
 use Rattle.std.proofs.lemmas.List.{take_rest, length-append}
-use Rattle.std.proofs.lemmas.Bool.{eqb-true, eqb-false, eq-eqb, ne_eqb, cases_Bool}
-use Rattle.lines.specs.Cuts.{before, from, pieces, seen}
+use Rattle.std.proofs.lemmas.Bool.{eqb-true, eq-eqb, ne_eqb, cases_Bool}
+use Rattle.lines.specs.Cuts.{before, from, seen}
 use Rattle.lines.specs.Words.{past_spaces, word_at, next_word, some, words_of, WordOf}
-use Rattle.lines.proofs.Cutting.{before_from, length_parts, none_before, behind, pieces_cut}
+use Rattle.lines.proofs.Cutting.{before_from, none_before, behind, pieces_cut}
 
 -- ---- the spaces
 

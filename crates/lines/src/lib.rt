@@ -1,4 +1,6 @@
 // The lines of text that the command-line programs read and print.
+#![tactic(auto)]
+
 mod cut;
 mod decimal;
 mod hex;

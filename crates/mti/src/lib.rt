@@ -1,4 +1,6 @@
 // The products, their channels, and the identifiers under which their data is sent.
+#![tactic(auto)]
+
 mod channel;
 mod output;
 mod precision;

@@ -3,7 +3,7 @@ use Rattle.std.proofs.Common.{◌≡◌, ℕ, ◌+◌, ◌<◌, ◌≤◌, List,
 use Rattle.store.specs.declared.port.StoreError.TheVariants.{NoWritesLeft}
 use Rattle.store.specs.declared.port.Loaded.TheVariants.{Held}
 use Rattle.store.specs.declared.trial.Trial.{Trial}
-use Rattle.store.specs.Meaning.{image_size, found, buffer_after, held_after, left_after}
+use Rattle.store.specs.Meaning.{found, buffer_after, held_after, left_after}
 use Rattle.store.specs.Trial.{held_after_two, left_after_two, trial_of, answers, Sized, TrialSaid}
 use Rattle.store.proofs.Meanings.{accepted-answer, accepted-held, accepted-left, refuses_none, none_answer, refused-held, refused-left, sized_answer, sized_buffer}
 

@@ -1,4 +1,6 @@
 // Where an image is kept: what a store means, a cell of fixed memory, and a page over lent memory.
+#![tactic(auto)]
+
 mod cell;
 mod page;
 mod port;

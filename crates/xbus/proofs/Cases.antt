@@ -1,5 +1,5 @@
 -- The three cases at the front of a list of bytes, in the words of the protocol.
-use Rattle.std.proofs.Common.{◌≡◌, ℕ, suc, ◌+◌, ◌-◌, ◌*◌, ◌/◌, ◌%◌, ◌<◌, ◌≤◌, Bool, true, false, cond, ◌&&◌, eqb, ltb, leb, ◌⊎◌, List, [], ◌∷◌, ◌++◌, length, get_or, take, drop, replicate, sym, refl, ap, ◌∙◌, subst, inl, inr, ⊎_elim, arith}
+use Rattle.std.proofs.Common.{◌≡◌, ℕ, suc, ◌+◌, ◌-◌, ◌*◌, ◌/◌, ◌%◌, ◌<◌, ◌≤◌, true, false, ◌&&◌, eqb, ltb, leb, List, [], ◌∷◌, ◌++◌, length, get_or, take, drop, replicate, sym, refl, ap, ◌∙◌, subst, inl, inr, ⊎_elim, arith}
 use lib.Seq.{take-append-add}
 use Rattle.std.proofs.lemmas.List.{append-nil, append_assoc, length-append, length-take-le, length-replicate, take_at, take_more, take-append-drop}
 use Rattle.std.proofs.lemmas.Bool.{leb-true, le-ltb, lt-ltb, le-leb, lt-leb, ne_eqb, cond-true, cond-false, cases_lt, cases_Bool, and_parts, and_from, cases_eq}
@@ -7,10 +7,10 @@ use Rattle.xbus.specs.declared.front.Front.{Front}
 use Rattle.xbus.specs.declared.front.Front.TheVariants.{Whole, Waits, Wrong}
 use Rattle.xbus.specs.Numbers.{Bytes}
 use Rattle.xbus.specs.Front.{total, announced, extended, started, front_of}
-use Rattle.xbus.specs.Frames.{length_bytes, header_of, checksum, enclosed, encoded, Frame, Begins, Starts, Neither, FrontSaid}
+use Rattle.xbus.specs.Frames.{length_bytes, header_of, checksum, enclosed, encoded, Begins, Starts, Neither, FrontSaid}
 use Rattle.xbus.proofs.Bytes.{bytes_at, bytes_take, bytes_append, bytes_zeros}
 use Rattle.xbus.proofs.Totals.{total_append}
-use Rattle.xbus.proofs.Fronts.{waits_not_wrong, whole_not_wrong, whole_not_waits, announced_waits, announced_whole, announced_short, Complete, announced_complete, front_stays, front_bounded}
+use Rattle.xbus.proofs.Fronts.{waits_not_wrong, whole_not_wrong, whole_not_waits, announced_whole, announced_short, Complete, announced_complete, front_stays, front_bounded}
 
 -- ---- the length field
 

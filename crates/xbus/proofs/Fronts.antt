@@ -1,7 +1,7 @@
 -- What the computed front says of sizes and sums, and that only a front that waits can change.
-use Rattle.std.proofs.Common.{◌≡◌, ℕ, ◌+◌, ◌-◌, ◌*◌, ◌%◌, ◌<◌, ◌≤◌, Bool, true, false, cond, ◌&&◌, eqb, ltb, leb, ◌⊎◌, List, [], ◌∷◌, ◌++◌, length, get_or, take, drop, sym, refl, ap, ◌∙◌, subst, inl, inr, ⊎_elim, arith}
+use Rattle.std.proofs.Common.{◌≡◌, ℕ, ◌+◌, ◌-◌, ◌*◌, ◌%◌, ◌<◌, ◌≤◌, Bool, true, false, cond, ◌&&◌, eqb, ltb, leb, List, [], ◌∷◌, ◌++◌, length, get_or, take, drop, sym, refl, ap, ◌∙◌, ⊎_elim, arith}
 use Rattle.std.proofs.lemmas.List.{length-append, take-append-le}
-use Rattle.std.proofs.lemmas.Bool.{leb-true, leb-false, eqb-true, lt-ltb, le-ltb, le-leb, lt-leb, eq-eqb, cond-true, cond-false, cond_both, cases_lt, cases_Bool, and_parts, and_right}
+use Rattle.std.proofs.lemmas.Bool.{leb-true, leb-false, eqb-true, lt-ltb, le-ltb, lt-leb, eq-eqb, cond-true, cond-false, cond_both, cases_lt, cases_Bool, and_parts, and_right}
 use Rattle.xbus.specs.declared.front.Front.{Front}
 use Rattle.xbus.specs.declared.front.Front.TheVariants.{Whole, Waits, Wrong}
 use Rattle.xbus.specs.Front.{total, announced, extended, started, front_of}

@@ -1,10 +1,9 @@
 -- Frames and their parts are each other's inverse.
-use Rattle.std.proofs.Common.{◌≡◌, ℕ, ◌+◌, ◌-◌, ◌/◌, ◌%◌, ◌<◌, ◌≤◌, Bool, true, false, cond, leb, List, [], ◌∷◌, ◌++◌, length, get_or, take, drop, Some, None, sym, refl, ap, ◌∙◌, subst, ⊎_elim, arith}
+use Rattle.std.proofs.Common.{◌≡◌, ℕ, ◌+◌, ◌-◌, ◌/◌, ◌%◌, ◌≤◌, cond, leb, List, [], ◌∷◌, ◌++◌, length, take, drop, Some, None, sym, refl, ap, ◌∙◌, subst, ⊎_elim, arith}
 use Rattle.std.proofs.lemmas.List.{length-append, length-take-le, get_or-take, take_at, drop_at}
 use Rattle.std.proofs.lemmas.Bool.{lt-leb, cond-false, cases_lt}
 use Rattle.xbus.specs.declared.front.Front.{Front}
 use Rattle.xbus.specs.declared.front.Front.TheVariants.{Whole, Waits, Wrong}
-use Rattle.xbus.specs.Numbers.{Bytes}
 use Rattle.xbus.specs.Front.{front_of}
 use Rattle.xbus.specs.Frames.{checksum, enclosed, encoded, Frame}
 use Rattle.xbus.specs.Parts.{Parts, frame_of, around, parts_of, whole_parts, first_parts, PartsInverse}

@@ -1,4 +1,6 @@
 // Xbus frames: numbers and checksum, what stands at the front of a list of bytes, the parts of a frame, writing one.
+#![tactic(auto)]
+
 mod front;
 mod numbers;
 mod parts;

@@ -1,27 +1,27 @@
 -- The digits of a word, read to the end or to the first that fails.
-use Rattle.std.proofs.Common.{◌≡◌, sym, ◌∙◌, rules}
+use Rattle.std.proofs.Common.{sym, ◌∙◌, rules}
 use Rattle.std.specs.Str.{all_ascii_digits}
 use Rattle.std.proofs.lemmas.List.{nil_from_length, at_drop_all}
 use Rattle.lines.specs.Decimals.{value_after}
 use Rattle.lines.proofs.Numbers.{digit_more, digit_fails, all_read, decimal_reads_back}
 use Rattle.lines.proofs.decimal.decimal_of.Goals as goal
 
-pub returns-then-is-empty : goal.returns-then-is-empty
-returns-then-is-empty c =
+pub returns-then-is_empty : goal.returns-then-is_empty
+returns-then-is_empty c =
     let e = nil_from_length c.args.word.now (search rules) in
     record { value = rw e; back = decimal_reads_back }
 
-pub returns-in-err-n : goal.returns-in-err-n
-returns-in-err-n c =
-    let no = sym c.with-digit.ensures ∙ c.in-err-n.was in
+pub returns-in_err-n : goal.returns-in_err-n
+returns-in_err-n c =
+    let no = sym c.with_digit.ensures ∙ c.in_err-n.was in
     record {
-      value = c.from-residual.ensures ∙ digit_fails c.args.word.now c.loop-c.c-index c.loop-c.n c.loop-c-test.true no c.loop-c.invariant.0 c.loop-c.invariant.1;
+      value = c.from_residual.ensures ∙ digit_fails c.args.word.now c.loop-c.c-index c.loop-c.n c.loop-c-test.true no c.loop-c.invariant.0 c.loop-c.invariant.1;
       back = decimal_reads_back;
     }
 
 pub loop-c-preserved : goal.loop-c-preserved
 loop-c-preserved c =
-    let m = digit_more c.args.word.now c.loop-c.c-index c.loop-c.n c.in-ok-n.n c.loop-c-test.true (sym c.with-digit.ensures ∙ c.in-ok-n.was) in
+    let m = digit_more c.args.word.now c.loop-c.c-index c.loop-c.n c.in_ok-n.n c.loop-c-test.true (sym c.with_digit.ensures ∙ c.in_ok-n.was) in
     (m.0 ∙ c.loop-c.invariant.0, m.1 ∙ c.loop-c.invariant.1, m.2)
 
 pub returns : goal.returns

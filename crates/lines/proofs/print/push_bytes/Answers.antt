@@ -1,15 +1,15 @@
 -- The bytes are printed one by one, and where one is not, those in front of it are.
-use Rattle.std.proofs.Common.{◌++◌, string_bytes, ap, ◌∙◌, rules}
+use Rattle.std.proofs.Common.{◌++◌, string_bytes, ap, ◌∙◌}
 use Rattle.std.proofs.lemmas.List.{take_all}
 use Rattle.std.proofs.lemmas.Result.{MatchResult-from_err}
 use Rattle.lines.specs.Bytes.{printed}
 use Rattle.lines.proofs.Printing.{printed_more, reads_back, command_reads_back}
 use Rattle.lines.proofs.print.push_bytes.Goals as goal
 
-pub returns-in-err-push-byte : goal.returns-in-err-push-byte
-returns-in-err-push-byte c = record {
-  value = MatchResult-from_err c.from-residual.result _ _ c.from-residual.ensures.0
-      (λ _. record { count = c.loop-byte.byte-index; fewer = c.loop-byte-test.true; is = c.in-err-push-byte.ensures ∙ c.loop-byte.invariant });
+pub returns-in_err-push_byte : goal.returns-in_err-push_byte
+returns-in_err-push_byte c = record {
+  value = MatchResult-from_err c.from_residual.result _ _ c.from_residual.ensures.0
+      (λ _. record { count = c.loop-byte.byte-index; fewer = c.loop-byte-test.true; is = c.in_err-push_byte.ensures ∙ c.loop-byte.invariant });
   back = reads_back;
   command = command_reads_back;
 }
@@ -17,7 +17,7 @@ returns-in-err-push-byte c = record {
 pub loop-byte-preserved : goal.loop-byte-preserved
 loop-byte-preserved c =
     printed_more (string_bytes c.args.out.now) c.args.bytes.now (string_bytes c.loop-byte.out) _ c.loop-byte.byte-index
-    c.loop-byte-test.true c.loop-byte.invariant c.in-ok-push-byte.ensures
+    c.loop-byte-test.true c.loop-byte.invariant c.in_ok-push_byte.ensures
 
 pub returns : goal.returns
 returns c = record {

@@ -4,16 +4,16 @@ use Rattle.std.proofs.lemmas.List.{nil_from_length}
 use Rattle.lines.proofs.LineParts.{line_cases, lines_cases, line_is}
 use Rattle.lines.proofs.text.next_line.Goals as goal
 
-pub returns-then-is-empty : goal.returns-then-is-empty
-returns-then-is-empty c =
+pub returns-then-is_empty : goal.returns-then-is_empty
+returns-then-is_empty c =
     let e = nil_from_length c.args.text.now (search rules) in
     record { value = rw e; parts = e; lines = rw e }
 
 pub returns : goal.returns
 returns c =
-    let v = line_is c.args.text.now c.without-return.result c.behind-first.result (search rules) (search rules) (search rules) in
+    let v = line_is c.args.text.now c.without_return.result c.behind_first.result (search rules) (search rules) (search rules) in
     record {
       value = v;
-      parts = line_cases (Some (c.without-return.result, c.behind-first.result)) c.args.text.now v;
-      lines = lines_cases (Some (c.without-return.result, c.behind-first.result)) c.args.text.now v;
+      parts = line_cases (Some (c.without_return.result, c.behind_first.result)) c.args.text.now v;
+      lines = lines_cases (Some (c.without_return.result, c.behind_first.result)) c.args.text.now v;
     }

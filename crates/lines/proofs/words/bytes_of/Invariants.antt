@@ -1,5 +1,5 @@
 -- The bytes so far and those of the rest are the line's; some stand there once the first word is a byte.
-use Rattle.std.proofs.Common.{◌≡◌, ℕ, true, cond, eqb, length, vec_items}
+use Rattle.std.proofs.Common.{◌≡◌, true, cond, eqb, length, vec_items}
 use Rattle.lines.specs.Words.{words_of}
 use Rattle.lines.specs.Bytes.{bytes_of}
 use Rattle.lines.specs.Faults.{first_is_byte}

@@ -7,5 +7,5 @@ use Rattle.mti.proofs.output.known.Goals as goal
 pub returns : goal.returns
 returns c =
     let e : c.combine.result ≡ known_of c.args.identifier
-    = cc (c.find-channel.ensures.is, c.from-digit.ensures.is, c.combine.ensures) in
+    = cc (c.find_channel.ensures.is, c.from_digit.ensures.is, c.combine.ensures) in
     record { is = e; exact = known_exactly c.args.identifier _ e; bounded = answer_bounded c.args.identifier _ e }

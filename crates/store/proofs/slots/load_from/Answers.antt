@@ -11,12 +11,12 @@ returns-then-used-eq0 c =
     let bs = c.args.bytes.now in
     let b = c.args.buf.now in
     let long = c.if-buf-ne-IMAGE.false in
-    let h = held_none bs (sym c.used-slots-used.ensures.value ∙ c.if-used-eq0.true) in
+    let h = held_none bs (sym c.used_slots-used.ensures.value ∙ c.if-used-eq0.true) in
     record {
       answer = sym (sized_answer b (held_in bs) long ∙ ap (λ o. Ok (found o)) h);
       buffer = sym (sized_buffer b (held_in bs) long ∙ ap (λ o. unwrap_or o b) h);
       bytes = refl;
-      meant = c.used-slots-used.ensures.meant;
+      meant = c.used_slots-used.ensures.meant;
     }
 
 pub returns : goal.returns
@@ -24,16 +24,16 @@ returns c =
     let bs = c.args.bytes.now in
     let b = c.args.buf.now in
     let long = c.if-buf-ne-IMAGE.false in
-    let used = c.used-slots-used.ensures.value in
+    let used = c.used_slots-used.ensures.value in
     let h = held_last bs (λ e. c.if-used-eq0.false (used ∙ e)) in
-    let at = slot_size * (c.used-slots-used.result - 1) + 1 in
+    let at = slot_size * (c.used_slots-used.result - 1) + 1 in
     let size : at + image_size - at ≡ image_size = omega arith in
     record {
       answer = sym (sized_answer b (held_in bs) long ∙ ap (λ o. Ok (found o)) h);
       buffer =
-          c.copy-from-slice.ensures.after
+          c.copy_from_slice.ensures.after
           ∙ (ap (λ k. take k (drop at bs)) size ∙ (ap (λ n. image_at bs (n - 1)) used
           ∙ sym (sized_buffer b (held_in bs) long ∙ ap (λ o. unwrap_or o b) h)));
       bytes = refl;
-      meant = c.used-slots-used.ensures.meant;
+      meant = c.used_slots-used.ensures.meant;
     }

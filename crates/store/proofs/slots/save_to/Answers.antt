@@ -17,7 +17,7 @@ returns-then-image-ne-IMAGE c =
       left = sym (refused-left xs (left_in bs) e);
       bytes = sym (refused-memory xs (left_in bs) e saved bs);
       rest = refl;
-      meant = c.used-slots-used.ensures.meant;
+      meant = c.used_slots-used.ensures.meant;
     }
 
 pub returns-then-used-bytes : goal.returns-then-used-bytes
@@ -32,7 +32,7 @@ returns-then-used-bytes c =
       left = sym (refused-left xs (left_in bs) e);
       bytes = sym (refused-memory xs (left_in bs) e saved bs);
       rest = refl;
-      meant = c.used-slots-used.ensures.meant;
+      meant = c.used_slots-used.ensures.meant;
     }
 
 pub returns : goal.returns
@@ -42,13 +42,13 @@ returns c =
     let long = c.if-image-ne-IMAGE.false in
     let room : used bs < slots bs = omega arith in
     let s =
-    saved_by_steps xs bs c.fence.new.bytes c.fill.new.bytes c.used-slots-used.result
-    c.used-slots-used.ensures.value c.fence.ensures c.fill.ensures in
+    saved_by_steps xs bs c.fence.new.bytes c.fill.new.bytes c.used_slots-used.result
+    c.used_slots-used.ensures.value c.fence.ensures c.fill.ensures in
     record {
       answer = sym (accepted-answer xs (left_in bs) long (omega arith));
       held = ap held_in s ∙ saved-held xs bs room long;
       left = ap left_in s ∙ saved-left xs bs room long;
       bytes = s ∙ saved-bytes xs bs room long;
       rest = ap rest s ∙ rest-saved xs bs room long;
-      meant = c.used-slots-used.ensures.meant;
+      meant = c.used_slots-used.ensures.meant;
     }

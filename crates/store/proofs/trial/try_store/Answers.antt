@@ -1,5 +1,5 @@
 -- Each call starts from the meaning that the call before it left.
-use Rattle.std.proofs.Common.{◌≡◌, length, rules}
+use Rattle.std.proofs.Common.{◌≡◌, length}
 use Rattle.store.specs.Meaning.{buffer_after}
 use Rattle.store.specs.Trial.{held_after_two, left_after_two, trial_of}
 use Rattle.store.proofs.Trials.{trial_said_of}

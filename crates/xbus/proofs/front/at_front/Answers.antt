@@ -8,7 +8,7 @@ returns c =
     let xs = c.args.bytes.now in
     record {
       value = c.classify.ensures;
-      said = front_said xs (bytes_all xs (λ k h. (c.type-inv.bytes k).fits));
+      said = front_said xs (bytes_all xs (λ k h. (c.type_inv.bytes k).fits));
       stays = front_stays xs;
       bounded = front_bounded xs;
     }

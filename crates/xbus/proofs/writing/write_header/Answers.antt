@@ -9,6 +9,6 @@ returns-then-len-lt255 c =
 pub returns-else-len-lt255 : goal.returns-else-len-lt255
 returns-else-len-lt255 c =
     let l = c.if-len-lt255.false in
-    let h = header_long c.args.out.now c.put-number.new.out c.args.address c.args.identifier c.args.len
-    (c.requires.1.0 l) l c.put-number.ensures in
+    let h = header_long c.args.out.now c.put_number.new.out c.args.address c.args.identifier c.args.len
+    (c.requires.1.0 l) l c.put_number.ensures in
     record { bytes = h.bytes; rest = h.rest; start = h.start; room = h.room }
