@@ -15,11 +15,14 @@ OTHER = {
     "data-by": "data_by_lem",
     "data-bytes": "data_bytes_lem",
     "data-size": "data_size_lem",
+    "entry-at": "entry_at_lem",
+    "feed-by": "feed_by_lem",
     "first-is-byte": "first_is_byte_lem",
     "is-front-by": "is_front_by_lem",
     "moment-frames": "moment_frames_lem",
     "packets-by": "packets_by_lem",
     "size_fits": "size_fits_lem",
+    "tick-by": "tick_by_lem",
     "valid-flags": "valid_flags_lem",
     "valid-profile": "valid_profile_lem",
     "wake-up": "wake_up_lem",
@@ -27,6 +30,7 @@ OTHER = {
 
 STOP = r"\s(){}\[\].,;:λ@\"|«»!&#/"
 NAME = re.compile(rf"[^{STOP}]+")
+MANY = re.compile(r"^\s*(?:pub |abbrev |unfoldable )*(?:data |record |ruleset )?((?:[^\s(){}:;.,λ→=]+ )*[^\s(){}:;.,λ→=]+)(?:\s*[({][^)}]*[)}])*\s*:\s")
 TOP = re.compile(r"^((?:pub |abbrev |unfoldable |private )*)(data |record |ruleset )?([^\s(){}:;.,λ]+)(.*)$")
 MADE = re.compile(r":\s*(?:goal|given|Goals|Given)\.|:\s*\S*Goals\.")
 WORDS = {"use", "pub", "mod", "open", "infix", "infixl", "infixr", "deriving", "unfolding", "import", "module", "where"}
@@ -52,6 +56,10 @@ def declared(path):
         line = code(line.rstrip("\n"))
         if not line.strip():
             continue
+        # what a module with parameters holds, and several names with one type
+        many = MANY.match(line)
+        if many and not MADE.search(line):
+            found |= {n for n in many[1].split() if "-" in n or re.search("[a-z][A-Z]", n)} - WORDS
         if not line.startswith(" "):
             m = TOP.match(line)
             block = None
@@ -122,6 +130,8 @@ def main():
                 for t in NAME.findall(text[a:b]):
                     tokens.setdefault(t, set()).add(p)
     names = {n for n in names if re.fullmatch(r"[A-Za-z][A-Za-z0-9_'-]*", n)}
+    if "sizeFits" not in names:
+        names.discard("size_fits")  # a second run: the lemma has its other name already
     turn = {n: spelling(n) for n in names if spelling(n) != n}
     back = {}
     for n, s in sorted(turn.items()):

@@ -1,9 +1,8 @@
 -- A frame with one packet more, in place.
-use Rattle.std.proofs.Common.{◌≡◌, ℕ, ◌+◌, ◌-◌, ◌<◌, ◌≤◌, true, false, cond, ◌&&◌, ltb, leb, List, [], ◌∷◌, ◌++◌, length, take, drop, set, Some, None, Option, sym, refl, ap, ◌∙◌, subst, ⊎_elim, arith}
+use Rattle.std.proofs.Common.{◌≡◌, ℕ, ◌+◌, ◌-◌, ◌≤◌, ◌&&◌, ltb, leb, List, [], ◌∷◌, ◌++◌, length, take, drop, set, Some, Option, sym, ap, ◌∙◌, ⊎_elim, arith}
 use lib.Seq.{paste}
 use borrow.Rule.Slice.PartMut.{put_mid}
 use Rattle.std.proofs.lemmas.List.{append_assoc, length-append, length-take-le, length-drop, take_at, drop_at, drop_all, append-nil}
-use Rattle.std.proofs.lemmas.Slice.{take-put_mid}
 use Rattle.std.proofs.lemmas.Bool.{lt-ltb, le-ltb, le-leb, lt-leb, cond-true, cond-false, cases_lt, and_from, and_right}
 use Rattle.xbus.specs.Numbers.{be}
 use Rattle.xbus.specs.Frames.{encoded}
@@ -71,29 +70,29 @@ packet_laid (x ∷ y ∷ z ∷ rest) mid cs content id l e f =
 module _ (xs packet mid : List ℕ) (old new len : ℕ)
     (same : mid ≡ packet) (fits : new + (len + length packet) ≤ length xs) (in-old : old + len ≤ length xs)
   where
-    abbrev data-moved : List ℕ
-    data-moved = take len (drop old xs)
+    abbrev data_moved : List ℕ
+    data_moved = take len (drop old xs)
 
     abbrev moved : List ℕ
     moved = paste xs new (drop old xs) len
 
-    moved_front : take (new + len) moved ≡ take new xs ++ data-moved
+    moved_front : take (new + len) moved ≡ take new xs ++ data_moved
     moved_front =
-        let l : length data-moved ≡ len = length-take-le len (drop old xs) (omega (arith, length-drop old xs)) in
-        take_at (take new xs ++ data-moved) (drop (new + len) xs) (new + len)
-        (length-append (take new xs) data-moved ∙ omega (arith, length-take-le new xs (omega arith)))
+        let l : length data_moved ≡ len = length-take-le len (drop old xs) (omega (arith, length-drop old xs)) in
+        take_at (take new xs ++ data_moved) (drop (new + len) xs) (new + len)
+        (length-append (take new xs) data_moved ∙ omega (arith, length-take-le new xs (omega arith)))
 
     -- what stands from `new` on once the packet is written
-    pub extended : (k : ℕ) (n : ℕ) → n ≡ len + length packet → take n (drop new (put_mid (new + len) k moved mid)) ≡ data-moved ++ packet
+    pub extended : (k : ℕ) (n : ℕ) → n ≡ len + length packet → take n (drop new (put_mid (new + len) k moved mid)) ≡ data_moved ++ packet
     extended k n e =
-        let l : length data-moved ≡ len = length-take-le len (drop old xs) (omega (arith, length-drop old xs)) in
+        let l : length data_moved ≡ len = length-take-le len (drop old xs) (omega (arith, length-drop old xs)) in
         let rest : List ℕ = drop k (drop (new + len) moved) in
-        let all : put_mid (new + len) k moved mid ≡ take new xs ++ ((data-moved ++ packet) ++ rest) =
-        (λ i. moved_front i ++ (same i ++ rest)) ∙ append_assoc (take new xs) data-moved (packet ++ rest)
-        ∙ ap (λ z. take new xs ++ z) (sym (append_assoc data-moved packet rest)) in
+        let all : put_mid (new + len) k moved mid ≡ take new xs ++ ((data_moved ++ packet) ++ rest) =
+        (λ i. moved_front i ++ (same i ++ rest)) ∙ append_assoc (take new xs) data_moved (packet ++ rest)
+        ∙ ap (λ z. take new xs ++ z) (sym (append_assoc data_moved packet rest)) in
         ap (λ z. take n (drop new z)) all
-        ∙ ap (take n) (drop_at (take new xs) ((data-moved ++ packet) ++ rest) new (length-take-le new xs (omega arith)))
-        ∙ take_at (data-moved ++ packet) rest n (length-append data-moved packet ∙ omega arith)
+        ∙ ap (take n) (drop_at (take new xs) ((data_moved ++ packet) ++ rest) new (length-take-le new xs (omega arith)))
+        ∙ take_at (data_moved ++ packet) rest n (length-append data_moved packet ∙ omega arith)
 
 -- a part that is written over leaves the length
 over_length : (a n : ℕ) (xs ys : List ℕ) → a + n ≤ length xs → length ys ≡ n → length (put_mid a (a + n - a) xs ys) ≡ length xs
@@ -110,19 +109,19 @@ module _ (xs shifted packet mid fin : List ℕ) (old new len n : ℕ) (r : Optio
     abbrev written : List ℕ
     written = put_mid (new + len) (new + n - (new + len)) shifted mid
 
-    written-length : length written ≡ length xs
-    written-length =
+    written_length : length written ≡ length xs
+    written_length =
         let f = frame_parts n in
         let k : new + n ≡ new + len + length packet = omega arith in
         ap (λ m. length (put_mid (new + len) (m - (new + len)) shifted mid)) k
         ∙ over_length (new + len) (length packet) shifted mid (omega arith) (ap length same) ∙ kept
 
-    pub sealed-extended : r ≡ content_size (length written) → fin ≡ sealed_by r 0xFF 0x36 written → fin ≡ encoded 0xFF 0x36 (take len (drop (content_start len) xs) ++ packet)
-    sealed-extended is-r is-fin =
+    pub sealed_extended : r ≡ content_size (length written) → fin ≡ sealed_by r 0xFF 0x36 written → fin ≡ encoded 0xFF 0x36 (take len (drop (content_start len) xs) ++ packet)
+    sealed_extended is-r is-fin =
         let f = frame_parts n in
         let g = start_grows len n (omega arith) in
         let k : ℕ = new + n - (new + len) in
-        let some : r ≡ Some n = is-r ∙ ap content_size (written-length ∙ size) ∙ size_back n short in
+        let some : r ≡ Some n = is-r ∙ ap content_size (written_length ∙ size) ∙ size_back n short in
         is-fin ∙ ap (λ o. sealed_by o 0xFF 0x36 written) some
         ∙ ap (encoded 0xFF 0x36)
         (ap (λ j. take n (drop j written)) (sym is-new)

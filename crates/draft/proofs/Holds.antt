@@ -1,23 +1,20 @@
 -- What a tray holds for a draft: with a packet more, and when it is closed.
-use Rattle.std.proofs.Common.{◌≡◌, ℕ, ◌+◌, ◌-◌, ◌<◌, ◌≤◌, cond, ltb, List, [], ◌∷◌, ◌++◌, length, take, drop, Some, Ok, Err, Result, sym, refl, ap, ◌∙◌, subst, ⊎_elim, arith}
+use Rattle.std.proofs.Common.{◌≡◌, ℕ, ◌+◌, ◌-◌, ◌<◌, ◌≤◌, ltb, List, [], ◌∷◌, ◌++◌, length, take, drop, Ok, Err, sym, refl, ap, ◌∙◌, ⊎_elim, arith}
 use lib.Seq.{paste}
 use Rattle.std.specs.List.{flat_map}
-use Rattle.std.proofs.lemmas.List.{append_assoc, length-append, length-take-le, length-drop, take_at, take-take, take_all, drop_at, drop-drop, flat_map_more}
+use Rattle.std.proofs.lemmas.List.{append_assoc, length-append, length-take-le, take_at, take-take, take_all, drop_at, drop-drop, flat_map_more}
 use Rattle.std.proofs.lemmas.Slice.{between_is}
 use Rattle.std.proofs.lemmas.Bool.{lt-ltb, le-ltb, cond-true, cond-false, cases_lt}
-use Rattle.xbus.specs.Numbers.{Bytes}
 use Rattle.xbus.specs.Frames.{header_of, checksum, encoded}
 use Rattle.xbus.specs.Writing.{frame_size, content_start}
 use Rattle.xbus.proofs.Cases.{length_short, length_is_long}
 use Rattle.xbus.proofs.Writes.{encoded_size}
-use Rattle.mtdata2.specs.Packets.{Item, packet_bytes, WellFormed, EachWellFormed}
+use Rattle.mtdata2.specs.Packets.{Item, packet_bytes, WellFormed}
 use Rattle.mtdata2.specs.Words.{MessageOf}
-use Rattle.mtdata2.specs.Reading.{read_of}
 use Rattle.mtdata2.proofs.Rounds.{accepts, well_formed_push}
 use Rattle.draft.specs.declared.draft.Draft.{Draft}
-use Rattle.draft.specs.declared.refusal.Refusal.{Refusal}
 use Rattle.draft.specs.declared.refusal.Refusal.TheVariants.{NoPacket}
-use Rattle.draft.specs.Composed.{frame_so_far, grown, content_in, laid, closing, Holding, Added, Closed}
+use Rattle.draft.specs.Composed.{frame_so_far, grown, content_in, laid, Holding, Added, Closed}
 use Rattle.draft.proofs.Extends.{frame_parts}
 
 -- ---- closed
@@ -27,8 +24,8 @@ no_bytes [] e = refl
 no_bytes (i ∷ is) e = absurd (omega arith)
 
 module _ (items : List Item) (tray : List ℕ) (d : Draft) (h : Holding items tray d) where
-  pub closed-empty : d.lot.size ≡ 0 → Closed items tray d (Err NoPacket)
-  closed-empty z =
+  pub closed_empty : d.lot.size ≡ 0 → Closed items tray d (Err NoPacket)
+  closed_empty z =
       let none : items ≡ [] = no_bytes items (sym h.sized ∙ z) in
       let no_items : (0 < length items) → ⊥ = λ l. omega (arith, ap length none) in
       record {

@@ -1,5 +1,5 @@
 -- What an accepted record says, and the tray and the draft after it.
-use Rattle.std.proofs.Common.{◌≡◌, ℕ, ◌+◌, ◌-◌, ◌<◌, ◌≤◌, Bool, true, false, cond, not, ◌&&◌, ltb, leb, List, [], ◌∷◌, ◌++◌, length, take, drop, Some, Ok, Err, Result, sym, refl, ap, ◌∙◌, subst, arith}
+use Rattle.std.proofs.Common.{◌≡◌, ℕ, ◌+◌, ◌-◌, ◌<◌, ◌≤◌, Bool, true, false, cond, not, ◌&&◌, ltb, leb, List, ◌++◌, length, take, drop, Ok, Err, Result, sym, refl, ap, ◌∙◌, subst, arith}
 use borrow.Rule.Slice.PartMut.{put_mid}
 use lib.Seq.{paste}
 use Rattle.std.proofs.lemmas.List.{length-append, length-take-le, length-drop}
@@ -70,8 +70,8 @@ module _ (source : List ℕ) (identifier place size start have room g : ℕ) (a 
   pub part_cut : take (place + size - place) (drop place source) ≡ part
   part_cut = let k : place + size - place ≡ size = omega arith in ap (λ m. take m (drop place source)) k
 
-  pub asked-well-formed : identifier < 65536 → Bytes source → WellFormed (asked source identifier place size)
-  asked-well-formed small bs = record {
+  pub asked_well_formed : identifier < 65536 → Bytes source → WellFormed (asked source identifier place size)
+  asked_well_formed small bs = record {
     holds = refl;
     identifier = small;
     bytes = bytes_take size (drop place source) (bytes_drop place source bs);
@@ -80,8 +80,8 @@ module _ (source : List ℕ) (identifier place size start have room g : ℕ) (a 
   }
 
   -- the tray after the frame was extended in place
-  pub laid-is : (tray fin : List ℕ) (f : ℕ) → room ≡ length tray → f ≡ frame_size g → fin ≡ encoded 0xFF 0x36 (take have (drop (content_start have) (take (start + f - start) (drop start tray))) ++ packet_bytes (item_of identifier (take (place + size - place) (drop place source)))) → put_mid start (start + f - start) tray fin ≡ laid tray start have (asked source identifier place size)
-  laid-is tray fin f r e is =
+  pub laid_is : (tray fin : List ℕ) (f : ℕ) → room ≡ length tray → f ≡ frame_size g → fin ≡ encoded 0xFF 0x36 (take have (drop (content_start have) (take (start + f - start) (drop start tray))) ++ packet_bytes (item_of identifier (take (place + size - place) (drop place source)))) → put_mid start (start + f - start) tray fin ≡ laid tray start have (asked source identifier place size)
+  laid_is tray fin f r e is =
       let i : Item = asked source identifier place size in
       let d : List ℕ = content_in tray start have ++ packet_bytes i in
       let k : start + f - start ≡ f = omega arith in
@@ -102,12 +102,12 @@ module _ (source : List ℕ) (identifier place size start have room g : ℕ) (a 
   pub extends : (tray : List ℕ) (f : ℕ) → room ≡ length tray → f ≡ frame_size g → (length (take (place + size - place) (drop place source)) ≤ 255) × ((grown have (length (take (place + size - place) (drop place source))) ≤ 2048) × (length (take (start + f - start) (drop start tray)) ≡ frame_size (grown have (length (take (place + size - place) (drop place source))))))
   extends tray f r e =
       let l : length (take (place + size - place) (drop place source)) ≡ size = ap length part_cut ∙ part_length in
-      let g-is : grown have (length (take (place + size - place) (drop place source))) ≡ g = omega (arith, a.is, l) in
+      let g_is : grown have (length (take (place + size - place) (drop place source))) ≡ g = omega (arith, a.is, l) in
       let k : start + f - start ≡ f = omega arith in (
         omega (arith, l, a.byte),
         (
-          omega (arith, g-is, a.short),
+          omega (arith, g_is, a.short),
           ap (λ m. length (take m (drop start tray))) k
-              ∙ length-take-le f (drop start tray) (omega (arith, length-drop start tray, a.fits)) ∙ e ∙ ap frame_size (sym g-is),
+              ∙ length-take-le f (drop start tray) (omega (arith, length-drop start tray, a.fits)) ∙ e ∙ ap frame_size (sym g_is),
         ),
       )

@@ -1,26 +1,26 @@
 -- Composing the packets of a message one after the other.
-use Rattle.std.proofs.Common.{◌≡◌, ℕ, zero, suc, ◌+◌, ◌-◌, ◌*◌, ◌<◌, ◌≤◌, Bool, true, false, cond, ltb, List, [], ◌∷◌, ◌++◌, length, take, drop, is_ok, Ok, Err, Result, sym, refl, ap, ◌∙◌, subst, ⊎_elim, arith}
+use Rattle.std.proofs.Common.{◌≡◌, ℕ, zero, suc, ◌+◌, ◌-◌, ◌*◌, ◌<◌, ◌≤◌, Bool, true, false, cond, ltb, List, [], ◌∷◌, ◌++◌, length, take, drop, is_ok, Ok, Err, Result, sym, refl, ap, ◌∙◌, subst, arith}
 use lib.Seq.{paste}
 use Rattle.std.specs.List.{flat_map}
 use Rattle.std.proofs.lemmas.List.Edits.{paste_none, length-paste, take-paste, drop-paste}
 use Rattle.std.proofs.lemmas.List.{append_assoc, append-nil, length-append, length-take-le, take_all, take_at, take-take, drop-drop, flat_map_more}
-use Rattle.std.proofs.lemmas.Bool.{ltb-false, lt-ltb, le-ltb, cond-true, cond-false, cases_lt, cases_Bool, ltb-true}
+use Rattle.std.proofs.lemmas.Bool.{ltb-true}
 use Rattle.xbus.specs.Frames.{encoded}
 use Rattle.xbus.specs.Writing.{frame_size}
 use Rattle.xbus.proofs.Writes.{encoded_size}
 use Rattle.mti.specs.Identifiers.{data_size_of}
 use Rattle.mtdata2.specs.Faults.{Report}
-use Rattle.mtdata2.specs.Packets.{Item, item_of, holds_of, size_fits, packet_bytes, WellFormed, EachWellFormed, cut_by, cut_of, handed, handed_by, handed_out}
+use Rattle.mtdata2.specs.Packets.{Item, item_of, size_fits, packet_bytes, WellFormed, EachWellFormed, handed, handed_by, handed_out}
 use Rattle.mtdata2.specs.Words.{MessageOf}
 use Rattle.mtdata2.proofs.Rounds.{size_fits_lem}
 use Rattle.draft.specs.declared.draft.Draft.{Draft}
 use Rattle.draft.specs.declared.refusal.Refusal.{Refusal}
 use Rattle.draft.specs.declared.refusal.Refusal.TheVariants.{NoRoom}
-use Rattle.draft.specs.Composed.{frame_so_far, asked, grown, judged, answered, laid, closing, Holding, Added, Closed}
+use Rattle.draft.specs.Composed.{frame_so_far, asked, grown, judged, answered, Holding, Added, Closed}
 use Rattle.draft.specs.Round.{Recomposed}
 use Rattle.draft.proofs.Extends.{size_grows}
 use Rattle.draft.proofs.Holds.{frame_grows}
-use Rattle.draft.proofs.Judges.{Accepted, accepted, judged_room}
+use Rattle.draft.proofs.Judges.{accepted, judged_room}
 
 -- of `all` packets those in `left` are still to come; the others stand in the tray at m, which was t
 pub record Progress (all : List Item) (m : ℕ) (t tray : List ℕ) (d : Draft) (left : List Item) : Type 0 where
@@ -75,8 +75,8 @@ module _ (all : List Item) (m : ℕ) (t tray u : List ℕ) (d e : Draft) (i : It
     (p : Progress all m t tray d (i ∷ left)) (a : Added d e tray u i) (same : e.lot.start ≡ d.lot.start)
     (room : d.lot.start + frame_size (grown d.lot.size (length i.bytes)) ≤ length tray)
   where
-    pub progress-more : Progress all m t u e left
-    progress-more =
+    pub progress_more : Progress all m t u e left
+    progress_more =
         let done = p.done in
         let new : List Item = done ++ (i ∷ []) in
         let h = p.holding in
@@ -130,7 +130,7 @@ progress_added all m t tray u d e i left content identifier x p is a same says =
     let q = accepted (length content) identifier 0 (length content) d.lot.start d.lot.size (length tray) o.0 o.1 in
     let lc : length content ≡ length i.bytes = sym (ap length (take_all (length content) content (omega arith))) ∙ ap (λ j. length j.bytes) is in
     let g : o.0 ≡ grown d.lot.size (length i.bytes) = q.is ∙ ap (grown d.lot.size) lc in
-    progress-more all m t tray u d e i left p (subst (Added d e tray u) is a) same (subst (λ k. d.lot.start + frame_size k ≤ length tray) g q.fits)
+    progress_more all m t tray u d e i left p (subst (Added d e tray u) is a) same (subst (λ k. d.lot.start + frame_size k ≤ length tray) g q.fits)
 
 -- ---- refused
 
@@ -193,8 +193,8 @@ recomposed input all m t tray d r k msg p closes mark =
 -- ---- as the code has it: the mark began at n, and the answer came by `?` or by closing
 
 module _ (input : List ℕ) (all : List Item) (m n : ℕ) (t tray : List ℕ) (d : Draft) (msg : MessageOf input all) (begun : m ≡ n) where
-  pub refused-at : (u : List ℕ) (i : Item) (left : List Item) (content : List ℕ) (e : Refusal) (r : Result (Unit {0}) Refusal) (k : ℕ) → Progress all m t tray d (i ∷ left) → content ≡ i.bytes → Err e ≡ answered (judged (length content) i.identifier 0 (length content) d.lot.start d.lot.size (length tray)) → r ≡ Err e → k ≡ d.lot.start → Recomposed input n t r k u
-  refused-at u i left content e r k p c says is back =
+  pub refused_at : (u : List ℕ) (i : Item) (left : List Item) (content : List ℕ) (e : Refusal) (r : Result (Unit {0}) Refusal) (k : ℕ) → Progress all m t tray d (i ∷ left) → content ≡ i.bytes → Err e ≡ answered (judged (length content) i.identifier 0 (length content) d.lot.start d.lot.size (length tray)) → r ≡ Err e → k ≡ d.lot.start → Recomposed input n t r k u
+  refused_at u i left content e r k p c says is back =
       subst (λ x. Recomposed input x t r k u) begun
       (subst (λ x. Recomposed input m t x k u) (sym is) (refused_packet input all m t tray u d i left content e k msg p c says back))
 

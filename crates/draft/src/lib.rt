@@ -1,4 +1,6 @@
 // Composing data messages in a tray of the caller.
+#![tactic(auto)]
+
 mod composing;
 mod draft;
 mod lot;

@@ -1,4 +1,6 @@
 // Prints what recordings and data messages hold, composes data messages, and shows readings in four precisions.
+#![tactic(auto)]
+
 mod composed;
 mod message;
 mod reading;

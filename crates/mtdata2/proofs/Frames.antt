@@ -1,5 +1,5 @@
 -- The frame of a message: what is read of a frame, and what it is that is read, or why it is refused.
-use Rattle.std.proofs.Common.{◌≡◌, ℕ, ◌+◌, ◌-◌, ◌*◌, ◌/◌, ◌%◌, ◌<◌, ◌≤◌, Bool, true, false, cond, ◌&&◌, eqb, leb, ◌⊎◌, List, [], ◌∷◌, ◌++◌, length, get_or, take, drop, Ok, Err, Result, sym, refl, ap, ◌∙◌, subst, inl, inr, ⊎_elim, arith}
+use Rattle.std.proofs.Common.{◌≡◌, ℕ, ◌+◌, ◌-◌, ◌*◌, ◌/◌, ◌%◌, ◌<◌, ◌≤◌, true, false, cond, ◌&&◌, eqb, leb, ◌⊎◌, List, [], ◌∷◌, ◌++◌, length, get_or, take, drop, Ok, Err, Result, sym, refl, ap, ◌∙◌, subst, inl, inr, ⊎_elim, arith}
 use Rattle.std.proofs.lemmas.List.{append_assoc, length-append, length-take-le, take_all, take_at, take_more, take_rest, drop_at}
 use Rattle.std.proofs.lemmas.Bool.{leb-true, leb-false, eqb-true, eqb-false, eq-eqb, ne_eqb, le-leb, lt-leb, cond-true, cond-false, cases_lt, cases_Bool, and_parts, and_cases, and_from}
 use Rattle.xbus.specs.Numbers.{Bytes}
@@ -7,10 +7,9 @@ use Rattle.xbus.specs.Front.{total}
 use Rattle.xbus.specs.Frames.{header_of, checksum, enclosed, encoded}
 use Rattle.xbus.proofs.Bytes.{bytes_at, bytes_take}
 use Rattle.xbus.proofs.Cases.{length_short, length_long, length_is_long, length_enclosed, checksum_sums, checksum_is}
-use Rattle.mtdata2.specs.declared.fault.Layer.TheVariants as layer
-use Rattle.mtdata2.specs.Faults.{Report, frameFault}
+use Rattle.mtdata2.specs.Faults.{Report, frame_fault}
 use Rattle.mtdata2.specs.Reading.{Parts, body_of, extended_of, started_of, frame_of}
-use Rattle.mtdata2.specs.Words.{report, data_start, HeaderCut, Announces, Tells, empty, other_start, header_cut, length_ruled_out, other_length, wrong_checksum}
+use Rattle.mtdata2.specs.Words.{data_start, Announces, Tells, empty, other_start, header_cut, length_ruled_out, other_length, wrong_checksum}
 
 -- xs is the frame of these parts, whose data start there
 pub record Framed (xs : List ℕ) (p : Parts) : Type 0 where
@@ -41,13 +40,13 @@ module _ (a i start n : ℕ) (t xs : List ℕ) (is : xs ≡ 0xFA ∷ (header_of 
   announces : Announces xs start n
   announces = record { address = a; identifier = i; behind = t; short = short; is = is; starts = starts }
 
-  content-is : take n (drop start xs) ≡ take n t
-  content-is = ap (λ l. take n (drop start l)) is ∙ ap (take n) (drop_at (0xFA ∷ header_of a i n) t start (sym starts))
+  content_is : take n (drop start xs) ≡ take n t
+  content_is = ap (λ l. take n (drop start l)) is ∙ ap (take n) (drop_at (0xFA ∷ header_of a i n) t start (sym starts))
 
-  body-framed : length xs ≡ start + n + 1 → total (drop 1 xs) % 256 ≡ 0 → Framed xs (record { address = a; identifier = i; start = start; content = take n (drop start xs) })
-  body-framed l z =
+  body_framed : length xs ≡ start + n + 1 → total (drop 1 xs) % 256 ≡ 0 → Framed xs (record { address = a; identifier = i; start = start; content = take n (drop start xs) })
+  body_framed l z =
       let lt : length t ≡ n + 1 = omega (arith, ap length is, length-append (header_of a i n) t) in
-      let c = content-is in
+      let c = content_is in
       let ln : length (take n t) ≡ n = length-take-le n t (omega arith) in
       let same : length (take n (drop start xs)) ≡ n = ap length c ∙ ln in
       record {
@@ -57,13 +56,13 @@ module _ (a i start n : ℕ) (t xs : List ℕ) (is : xs ≡ 0xFA ∷ (header_of 
         starts = starts ∙ ap (data_start a i) (sym same);
       }
 
-  told-body : Told xs (body_of a i start n xs)
-  told-body =
+  told_body : Told xs (body_of a i start n xs)
+  told_body =
       ⊎_elim
       (λ (l : eqb (length xs) (start + n + 1) ≡ true).
       ⊎_elim
       (λ (z : eqb (total (drop 1 xs) % 256) 0 ≡ true).
-      subst (Told xs) (sym (cond-true _ _ _ l ∙ cond-true _ _ _ z)) (body-framed (eqb-true _ _ l) (eqb-true _ _ z)))
+      subst (Told xs) (sym (cond-true _ _ _ l ∙ cond-true _ _ _ z)) (body_framed (eqb-true _ _ l) (eqb-true _ _ z)))
       (λ (z : eqb (total (drop 1 xs) % 256) 0 ≡ false).
       subst (Told xs) (sym (cond-true _ _ _ l ∙ cond-false _ _ _ z))
       (wrong_checksum start n announces (eqb-true _ _ l) (eqb-false _ _ z)))
@@ -87,10 +86,10 @@ told_extended a i (h ∷ l ∷ t) bs =
     (λ (e : (leb 255 v && leb v 2048) ≡ true).
     let q = and_parts (leb 255 v) (leb v 2048) e in
     let s = length_long h l bs.0 bs.1.0 (leb-true 255 v q.0) in
-    subst (Told xs) (sym (cond-true _ (body_of a i 6 v xs) (frameFault 16 4) e))
-    (told-body a i 6 v t xs (ap (λ z. 0xFA ∷ a ∷ i ∷ (z ++ t)) (sym s)) (ap (λ z. length (0xFA ∷ a ∷ i ∷ z)) (sym s)) (leb-true v 2048 q.1) bs.1.1))
+    subst (Told xs) (sym (cond-true _ (body_of a i 6 v xs) (frame_fault 16 4) e))
+    (told_body a i 6 v t xs (ap (λ z. 0xFA ∷ a ∷ i ∷ (z ++ t)) (sym s)) (ap (λ z. length (0xFA ∷ a ∷ i ∷ z)) (sym s)) (leb-true v 2048 q.1) bs.1.1))
     (λ (e : (leb 255 v && leb v 2048) ≡ false).
-    subst (Told xs) (sym (cond-false _ (body_of a i 6 v xs) (frameFault 16 4) e)) (length_ruled_out a i h l t refl (ruled_out v e)))
+    subst (Told xs) (sym (cond-false _ (body_of a i 6 v xs) (frame_fault 16 4) e)) (length_ruled_out a i h l t refl (ruled_out v e)))
     (cases_Bool (leb 255 v && leb v 2048))
 
 told_started : (rest : List ℕ) → Bytes rest → Told (0xFA ∷ rest) (started_of rest (0xFA ∷ rest))
@@ -103,7 +102,7 @@ told_started (a ∷ i ∷ n ∷ t) bs =
     (λ h.
     let s = length_short n h in
     subst (Told xs) (sym (cond-false (leb 255 n) (extended_of a i t xs) (body_of a i 4 n xs) (lt-leb 255 n h)))
-    (told-body a i 4 n t xs (ap (λ z. 0xFA ∷ a ∷ i ∷ (z ++ t)) (sym s)) (ap (λ z. length (0xFA ∷ a ∷ i ∷ z)) (sym s)) (omega arith) bs.1.1.1))
+    (told_body a i 4 n t xs (ap (λ z. 0xFA ∷ a ∷ i ∷ (z ++ t)) (sym s)) (ap (λ z. length (0xFA ∷ a ∷ i ∷ z)) (sym s)) (omega arith) bs.1.1.1))
     (λ h.
     let e : n ≡ 0xFF = omega (arith, bs.1.1.0) in
     let P : ℕ → Type 0 = λ m. Told (0xFA ∷ a ∷ i ∷ m ∷ t) (started_of (a ∷ i ∷ m ∷ t) (0xFA ∷ a ∷ i ∷ m ∷ t)) in
@@ -116,10 +115,10 @@ told_frame (x ∷ rest) bs =
     ⊎_elim
     (λ (e : eqb x 0xFA ≡ true).
     let P : ℕ → Type 0 = λ y. Told (y ∷ rest) (started_of rest (y ∷ rest)) in
-    subst (Told (x ∷ rest)) (sym (cond-true (eqb x 0xFA) (started_of rest (x ∷ rest)) (frameFault 14 0) e))
+    subst (Told (x ∷ rest)) (sym (cond-true (eqb x 0xFA) (started_of rest (x ∷ rest)) (frame_fault 14 0) e))
     (subst P (sym (eqb-true x 0xFA e)) (told_started rest bs.1)))
     (λ (e : eqb x 0xFA ≡ false).
-    subst (Told (x ∷ rest)) (sym (cond-false (eqb x 0xFA) (started_of rest (x ∷ rest)) (frameFault 14 0) e))
+    subst (Told (x ∷ rest)) (sym (cond-false (eqb x 0xFA) (started_of rest (x ∷ rest)) (frame_fault 14 0) e))
     (other_start (omega arith) (eqb-false x 0xFA e)))
     (cases_Bool (eqb x 0xFA))
 
@@ -163,14 +162,14 @@ module _ (a i start n : ℕ) (xs : List ℕ) (s : ℕ) (size : length xs ≡ sta
   sum_is : s ≡ total (drop 1 xs) % 256
   sum_is = summed ∙ ap (λ l. total l % 256) (take_rest xs 1)
 
-  sized : body_of a i start n xs ≡ cond (eqb (total (drop 1 xs) % 256) 0) (Ok (record { address = a; identifier = i; start = start; content = take n (drop start xs) })) (frameFault 17 (length xs - 1))
+  sized : body_of a i start n xs ≡ cond (eqb (total (drop 1 xs) % 256) 0) (Ok (record { address = a; identifier = i; start = start; content = take n (drop start xs) })) (frame_fault 17 (length xs - 1))
   sized = cond-true (eqb (length xs) (start + n + 1)) _ _ (eq-eqb _ _ size)
 
-  pub body-unsealed : (s ≡ 0 → ⊥) → frameFault 17 (length xs - 1) ≡ body_of a i start n xs
-  body-unsealed h = sym (sized ∙ cond-false (eqb (total (drop 1 xs) % 256) 0) _ _ (ne_eqb _ 0 (λ z. h (sum_is ∙ z))))
+  pub body_unsealed : (s ≡ 0 → ⊥) → frame_fault 17 (length xs - 1) ≡ body_of a i start n xs
+  body_unsealed h = sym (sized ∙ cond-false (eqb (total (drop 1 xs) % 256) 0) _ _ (ne_eqb _ 0 (λ z. h (sum_is ∙ z))))
 
-  pub body-sealed : (content : List ℕ) → s ≡ 0 → content ≡ take (start + n - start) (drop start xs) → Ok (record { address = a; identifier = i; start = start; content = content }) ≡ body_of a i start n xs
-  body-sealed content z c =
+  pub body_sealed : (content : List ℕ) → s ≡ 0 → content ≡ take (start + n - start) (drop start xs) → Ok (record { address = a; identifier = i; start = start; content = content }) ≡ body_of a i start n xs
+  body_sealed content z c =
       let k : start + n - start ≡ n = omega arith in
       ap (λ l. Ok (record { address = a; identifier = i; start = start; content = l })) (c ∙ ap (λ m. take m (drop start xs)) k)
       ∙ sym (sized ∙ cond-true (eqb (total (drop 1 xs) % 256) 0) _ _ (eq-eqb _ 0 (sym sum_is ∙ z)))

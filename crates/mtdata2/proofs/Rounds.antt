@@ -1,18 +1,18 @@
 -- Packets and messages: what is read is composed of these packets, what is composed is read, and what a fault tells.
-use Rattle.std.proofs.Common.{◌≡◌, ℕ, zero, suc, ◌+◌, ◌-◌, ◌*◌, ◌/◌, ◌%◌, ◌<◌, ◌≤◌, Bool, true, false, cond, eqb, ltb, ◌⊎◌, List, [], ◌∷◌, ◌++◌, length, take, drop, Some, None, Ok, Err, Option, Result, sym, refl, ap, ◌∙◌, subst, inl, inr, ⊎_elim, arith}
+use Rattle.std.proofs.Common.{◌≡◌, ℕ, zero, suc, ◌+◌, ◌-◌, ◌*◌, ◌/◌, ◌%◌, ◌<◌, ◌≤◌, true, false, eqb, ltb, List, [], ◌∷◌, ◌++◌, length, take, drop, Some, None, Ok, Err, Option, Result, sym, refl, ap, ◌∙◌, subst, ⊎_elim, arith}
 use Rattle.std.specs.List.{flat_map}
 use Rattle.std.proofs.lemmas.List.{append_assoc, length-append, length-take-le, take-append-drop, take_at, drop_at, flat_map_more, nil_from_length}
 use Rattle.std.proofs.lemmas.Bool.{ltb-true, ltb-false, le-ltb, eqb-true, eqb-false, eq-eqb, cond-true, cond-false, cases_Bool, true≢false, ne_eqb}
-use Rattle.xbus.specs.Numbers.{Bytes, be}
+use Rattle.xbus.specs.Numbers.{Bytes}
 use Rattle.xbus.specs.Frames.{encoded}
 use Rattle.xbus.proofs.Bytes.{bytes_take, bytes_drop}
 use Rattle.mti.specs.Identifiers.{data_size_of}
-use Rattle.mtdata2.specs.Faults.{Report, packetFault, messageFault, and_then}
-use Rattle.mtdata2.specs.Packets.{Item, holds_of, fits_by, size_fits, item_of, cut_by, cut_of, packets_from, packet_bytes, WellFormed, EachWellFormed}
+use Rattle.mtdata2.specs.Faults.{Report, packet_fault, message_fault, and_then}
+use Rattle.mtdata2.specs.Packets.{Item, fits_by, size_fits, item_of, cut_by, cut_of, packets_from, packet_bytes, WellFormed, EachWellFormed}
 use Rattle.mtdata2.specs.Reading.{Parts, frame_of, addressed, message_of, read_of}
 use Rattle.mtdata2.specs.Words.{data_start, MessageOf, Behind, Tells, other_address, other_identifier, no_packet, packet_cut, content_cut, wrong_size, ReadSaid}
 use Rattle.mtdata2.proofs.Frames.{Framed, Told, told_frame, parts_from, frame_back}
-use Rattle.mtdata2.proofs.Runs.{and_ok, not_ok, Good, good, good_cut, cut_shorter}
+use Rattle.mtdata2.proofs.Runs.{Good, good_cut}
 
 -- ---- one packet
 
@@ -35,8 +35,8 @@ record CutOff (h l n : ℕ) (xs : List ℕ) (q : Item × List ℕ) : Type 0 wher
   pub rest : Bytes q.1
 
 module _ (h l n : ℕ) (xs : List ℕ) (hb : h < 256) (lb : l < 256) (nb : n < 256) (bs : Bytes xs) where
-  cut-off-is : ltb (length xs) n ≡ false → size_fits (h * 256 + l) n ≡ true → CutOff h l n xs (item_of (h * 256 + l) (take n xs), drop n xs)
-  cut-off-is inside fits =
+  cut_off_is : ltb (length xs) n ≡ false → size_fits (h * 256 + l) n ≡ true → CutOff h l n xs (item_of (h * 256 + l) (take n xs), drop n xs)
+  cut_off_is inside fits =
       let i : ℕ = h * 256 + l in
       let u : i / 256 % 256 ≡ h = omega arith in
       let v : i / 1 % 256 ≡ l = omega arith in
@@ -54,7 +54,7 @@ module _ (h l n : ℕ) (xs : List ℕ) (hb : h < 256) (lb : l < 256) (nb : n < 2
       }
 
   cut_off : (q : Item × List ℕ) → Good (h * 256 + l) n xs q → CutOff h l n xs q
-  cut_off q g = subst (CutOff h l n xs) (sym g.is) (cut-off-is g.inside g.fits)
+  cut_off q g = subst (CutOff h l n xs) (sym g.is) (cut_off_is g.inside g.fits)
 
 -- a well_formed packet is cut off
 cut_back : (p : ℕ) (i : Item) (rest : List ℕ) → WellFormed i → cut_of p (packet_bytes i ++ rest) ≡ Ok (i, rest)
@@ -103,34 +103,34 @@ module _ (xs content : List ℕ) (start : ℕ) (is : xs ≡ encoded 0xFF 0x36 co
   -- what a cut says
   record Cutting (rest : List ℕ) (q : Item × List ℕ) : Type 0 where
     pub well_formed : WellFormed q.0
-    pub is-rest : rest ≡ packet_bytes q.0 ++ q.1
+    pub is_rest : rest ≡ packet_bytes q.0 ++ q.1
     pub bytes : Bytes q.1
 
   abbrev CutTold : List ℕ → Result (Item × List ℕ) Report → Type 0
   CutTold rest (Ok q) = Cutting rest q
   CutTold rest (Err f) = Tells xs f
 
-  told-cut : (p : ℕ) (rest : List ℕ) → 0 < length rest → Bytes rest → Behind xs rest p → CutTold rest (cut_of p rest)
-  told-cut p [] some bs b = absurd (omega arith)
-  told-cut p (h ∷ []) some bs b = packet_cut (h ∷ []) p b (omega arith) (omega arith)
-  told-cut p (h ∷ l ∷ []) some bs b = packet_cut (h ∷ l ∷ []) p b (omega arith) (omega arith)
-  told-cut p (h ∷ l ∷ n ∷ ys) some bs b =
+  told_cut : (p : ℕ) (rest : List ℕ) → 0 < length rest → Bytes rest → Behind xs rest p → CutTold rest (cut_of p rest)
+  told_cut p [] some bs b = absurd (omega arith)
+  told_cut p (h ∷ []) some bs b = packet_cut (h ∷ []) p b (omega arith) (omega arith)
+  told_cut p (h ∷ l ∷ []) some bs b = packet_cut (h ∷ l ∷ []) p b (omega arith) (omega arith)
+  told_cut p (h ∷ l ∷ n ∷ ys) some bs b =
       let i : ℕ = h * 256 + l in
       ⊎_elim
       (λ (t : ltb (length ys) n ≡ true).
-      subst (CutTold (h ∷ l ∷ n ∷ ys)) (sym (cond-true (ltb (length ys) n) (packetFault 21 (p + 2)) _ t))
+      subst (CutTold (h ∷ l ∷ n ∷ ys)) (sym (cond-true (ltb (length ys) n) (packet_fault 21 (p + 2)) _ t))
       (content_cut h l n ys p b (ltb-true _ _ t)))
       (λ (t : ltb (length ys) n ≡ false).
       ⊎_elim
       (λ (u : size_fits i n ≡ true).
-      let c = cut-off-is h l n ys bs.0 bs.1.0 bs.1.1.0 bs.1.1.1 t u in
+      let c = cut_off_is h l n ys bs.0 bs.1.0 bs.1.1.0 bs.1.1.1 t u in
       subst (CutTold (h ∷ l ∷ n ∷ ys))
-      (sym (cond-false (ltb (length ys) n) (packetFault 21 (p + 2)) _ t ∙ cond-true (size_fits i n) _ (packetFault 22 (p + 2)) u))
-      (record { well_formed = c.well_formed; is-rest = c.is; bytes = c.rest }))
+      (sym (cond-false (ltb (length ys) n) (packet_fault 21 (p + 2)) _ t ∙ cond-true (size_fits i n) _ (packet_fault 22 (p + 2)) u))
+      (record { well_formed = c.well_formed; is_rest = c.is; bytes = c.rest }))
       (λ (u : size_fits i n ≡ false).
       let w = size_wrong (data_size_of i) n u in
       subst (CutTold (h ∷ l ∷ n ∷ ys))
-      (sym (cond-false (ltb (length ys) n) (packetFault 21 (p + 2)) _ t ∙ cond-false (size_fits i n) _ (packetFault 22 (p + 2)) u))
+      (sym (cond-false (ltb (length ys) n) (packet_fault 21 (p + 2)) _ t ∙ cond-false (size_fits i n) _ (packet_fault 22 (p + 2)) u))
       (wrong_size h l n ys p w.0 b (ltb-false _ _ t) w.1 w.2))
       (cases_Bool (size_fits i n)))
       (cases_Bool (ltb (length ys) n))
@@ -141,26 +141,26 @@ module _ (xs content : List ℕ) (start : ℕ) (is : xs ≡ encoded 0xFF 0x36 co
   PacketsTold rest (Err f) = Tells xs f
 
   told_more : (rest : List ℕ) (q : Item × List ℕ) → Cutting rest q → (r : Result (List Item) Report) → PacketsTold q.1 r → PacketsTold rest (and_then r (λ items. Ok (q.0 ∷ items)))
-  told_more rest q c (Ok items) t = ((c.well_formed, t.0), ap (λ l. packet_bytes q.0 ++ l) t.1 ∙ sym c.is-rest)
+  told_more rest q c (Ok items) t = ((c.well_formed, t.0), ap (λ l. packet_bytes q.0 ++ l) t.1 ∙ sym c.is_rest)
   told_more rest q c (Err f) t = t
 
-  told-step : (k p : ℕ) (rest : List ℕ) (r : Result (Item × List ℕ) Report) → CutTold rest r → ((q : Item × List ℕ) → Cutting rest q → PacketsTold q.1 (packets_from k (p + (length rest - length q.1)) q.1)) → PacketsTold rest (and_then r (λ q. and_then (packets_from k (p + (length rest - length q.1)) q.1) (λ items. Ok (q.0 ∷ items))))
-  told-step k p rest (Ok q) c f = told_more rest q c _ (f q c)
-  told-step k p rest (Err e) c f = c
+  told_step : (k p : ℕ) (rest : List ℕ) (r : Result (Item × List ℕ) Report) → CutTold rest r → ((q : Item × List ℕ) → Cutting rest q → PacketsTold q.1 (packets_from k (p + (length rest - length q.1)) q.1)) → PacketsTold rest (and_then r (λ q. and_then (packets_from k (p + (length rest - length q.1)) q.1) (λ items. Ok (q.0 ∷ items))))
+  told_step k p rest (Ok q) c f = told_more rest q c _ (f q c)
+  told_step k p rest (Err e) c f = c
 
-  told-packets : (k p : ℕ) (items : List Item) (rest : List ℕ) → length rest ≤ k → EachWellFormed items → Bytes rest → content ≡ flat_map packet_bytes items ++ rest → p ≡ start + length (flat_map packet_bytes items) → PacketsTold rest (packets_from k p rest)
-  told-packets k p items [] h w bs c e = (tt, refl)
-  told-packets zero p items (x ∷ ys) h w bs c e = absurd (omega arith)
-  told-packets (suc k) p items (x ∷ ys) h w bs c e =
+  told_packets : (k p : ℕ) (items : List Item) (rest : List ℕ) → length rest ≤ k → EachWellFormed items → Bytes rest → content ≡ flat_map packet_bytes items ++ rest → p ≡ start + length (flat_map packet_bytes items) → PacketsTold rest (packets_from k p rest)
+  told_packets k p items [] h w bs c e = (tt, refl)
+  told_packets zero p items (x ∷ ys) h w bs c e = absurd (omega arith)
+  told_packets (suc k) p items (x ∷ ys) h w bs c e =
       let rest : List ℕ = x ∷ ys in
-      told-step k p rest (cut_of p rest) (told-cut p rest (omega arith) bs (behind items rest p w c e))
+      told_step k p rest (cut_of p rest) (told_cut p rest (omega arith) bs (behind items rest p w c e))
       (λ q d.
       let more : flat_map packet_bytes items ++ packet_bytes q.0 ≡ flat_map packet_bytes (items ++ (q.0 ∷ [])) = flat_map_more packet_bytes [] items q.0 in
-      let lr : length rest ≡ length (packet_bytes q.0) + length q.1 = ap length d.is-rest ∙ length-append (packet_bytes q.0) q.1 in
+      let lr : length rest ≡ length (packet_bytes q.0) + length q.1 = ap length d.is_rest ∙ length-append (packet_bytes q.0) q.1 in
       let lm = sym (length-append (flat_map packet_bytes items) (packet_bytes q.0)) ∙ ap length more in
-      told-packets k (p + (length rest - length q.1)) (items ++ (q.0 ∷ [])) q.1
+      told_packets k (p + (length rest - length q.1)) (items ++ (q.0 ∷ [])) q.1
       (omega arith) (well_formed_push items q.0 w d.well_formed) d.bytes
-      (c ∙ ap (λ l. flat_map packet_bytes items ++ l) d.is-rest ∙ sym (append_assoc (flat_map packet_bytes items) (packet_bytes q.0) q.1) ∙ ap (λ l. l ++ q.1) more)
+      (c ∙ ap (λ l. flat_map packet_bytes items ++ l) d.is_rest ∙ sym (append_assoc (flat_map packet_bytes items) (packet_bytes q.0) q.1) ∙ ap (λ l. l ++ q.1) more)
       (omega arith))
 
 -- ---- the message
@@ -176,11 +176,11 @@ abbrev DataTold : List ℕ → Result Parts Report → Type 0
 DataTold xs (Ok p) = Data xs p
 DataTold xs (Err f) = Tells xs f
 
-told_empty : (xs : List ℕ) (p : Parts) → Framed xs p → p.address ≡ 0xFF → p.identifier ≡ 0x36 → length p.content ≡ 0 → DataTold xs (messageFault 19 p.start)
+told_empty : (xs : List ℕ) (p : Parts) → Framed xs p → p.address ≡ 0xFF → p.identifier ≡ 0x36 → length p.content ≡ 0 → DataTold xs (message_fault 19 p.start)
 told_empty xs p f a i z =
     let none : p.content ≡ [] = nil_from_length p.content z in
     let four : p.start ≡ 4 = f.starts ∙ (λ k. data_start (a k) (i k) (z k)) in
-    subst (λ k. DataTold xs (messageFault 19 k)) (sym four) (no_packet (f.is ∙ (λ k. encoded (a k) (i k) (none k))))
+    subst (λ k. DataTold xs (message_fault 19 k)) (sym four) (no_packet (f.is ∙ (λ k. encoded (a k) (i k) (none k))))
 
 told_addressed : (xs : List ℕ) (p : Parts) → Framed xs p → DataTold xs (addressed p)
 told_addressed xs p f =
@@ -219,33 +219,33 @@ ReadTold xs (Ok items) = MessageOf xs items
 ReadTold xs (Err f) = Tells xs f
 
 module _ (xs : List ℕ) (p : Parts) (d : Data xs p) where
-  content-is : xs ≡ encoded 0xFF 0x36 p.content
-  content-is = d.framed.is ∙ (λ k. encoded (d.address k) (d.identifier k) p.content)
+  content_is : xs ≡ encoded 0xFF 0x36 p.content
+  content_is = d.framed.is ∙ (λ k. encoded (d.address k) (d.identifier k) p.content)
 
-  content-starts : p.start ≡ data_start 0xFF 0x36 (length p.content)
-  content-starts = d.framed.starts ∙ (λ k. data_start (d.address k) (d.identifier k) (length p.content))
+  content_starts : p.start ≡ data_start 0xFF 0x36 (length p.content)
+  content_starts = d.framed.starts ∙ (λ k. data_start (d.address k) (d.identifier k) (length p.content))
 
-  some-items : (items : List Item) → flat_map packet_bytes items ≡ p.content → 0 < length items
-  some-items [] e = absurd (d.some (ap length (sym e)))
-  some-items (i ∷ is) e = omega arith
+  some_items : (items : List Item) → flat_map packet_bytes items ≡ p.content → 0 < length items
+  some_items [] e = absurd (d.some (ap length (sym e)))
+  some_items (i ∷ is) e = omega arith
 
-  read_told : (r : Result (List Item) Report) → PacketsTold xs p.content p.start content-is content-starts p.content r → ReadTold xs r
+  read_told : (r : Result (List Item) Report) → PacketsTold xs p.content p.start content_is content_starts p.content r → ReadTold xs r
   read_told (Ok items) t = record {
-    some = some-items items t.1;
+    some = some_items items t.1;
     well_formed = t.0;
     short = omega (arith, ap length t.1, d.framed.short);
-    is = content-is ∙ ap (encoded 0xFF 0x36) (sym t.1);
+    is = content_is ∙ ap (encoded 0xFF 0x36) (sym t.1);
   }
   read_told (Err f) t = t
 
-  packets-told : ReadTold xs (packets_from (length p.content) p.start p.content)
-  packets-told =
+  packets_told : ReadTold xs (packets_from (length p.content) p.start p.content)
+  packets_told =
       read_told _
-      (told-packets xs p.content p.start content-is content-starts (length p.content) p.start [] p.content
+      (told_packets xs p.content p.start content_is content_starts (length p.content) p.start [] p.content
       (omega arith) tt d.framed.bytes refl (omega arith))
 
 told_read : (xs : List ℕ) (r : Result Parts Report) → DataTold xs r → ReadTold xs (and_then r (λ m. packets_from (length m.content) m.start m.content))
-told_read xs (Ok p) d = packets-told xs p d
+told_read xs (Ok p) d = packets_told xs p d
 told_read xs (Err f) t = t
 
 told : (xs : List ℕ) → Bytes xs → ReadTold xs (read_of xs)

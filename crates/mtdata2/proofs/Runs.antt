@@ -1,10 +1,10 @@
 -- The packets one after the other: as they are checked, and as they are handed out.
-use Rattle.std.proofs.Common.{◌≡◌, ℕ, zero, suc, ◌+◌, ◌-◌, ◌*◌, ◌<◌, ◌≤◌, Bool, true, false, cond, ltb, List, [], ◌∷◌, ◌++◌, length, take, drop, Some, None, Ok, Err, Option, Result, sym, refl, ap, ◌∙◌, subst, arith, Bor, MatchOption}
+use Rattle.std.proofs.Common.{◌≡◌, ℕ, zero, suc, ◌+◌, ◌-◌, ◌*◌, ◌<◌, ◌≤◌, Bool, true, false, cond, ltb, List, [], ◌∷◌, length, take, drop, Some, None, Ok, Err, Option, Result, sym, refl, ap, ◌∙◌, arith, Bor, MatchOption}
 use Rattle.std.specs.Option.{option_map}
 use Rattle.std.proofs.lemmas.List.{length-drop}
 use Rattle.std.proofs.lemmas.Bool.{cond-true, cond-false}
 use Rattle.mtdata2.specs.declared.packet.Packet.{Packet}
-use Rattle.mtdata2.specs.Faults.{Report, packetFault, and_then}
+use Rattle.mtdata2.specs.Faults.{Report, packet_fault, and_then}
 use Rattle.mtdata2.specs.Packets.{Item, item_of, size_fits, cut_by, cut_of, packets_from, done, handed, handed_by, handed_out, ok_of, item, cut_seen}
 use Rattle.mtdata2.specs.Reading.{Parts, message_of, read_of}
 use Rattle.mtdata2.proofs.Cutting.{Cut}
@@ -50,8 +50,8 @@ good p i n xs q e = let g = good_by (ltb (length xs) n) (size_fits i n) _ _ _ q 
 
 pub good_cut : (p i n : ℕ) (xs : List ℕ) (q : Item × List ℕ) → Good i n xs q → cut_by p i n xs ≡ Ok q
 good_cut p i n xs q g =
-    cond-false (ltb (length xs) n) (packetFault 21 (p + 2)) _ g.inside
-    ∙ cond-true (size_fits i n) _ (packetFault 22 (p + 2)) g.fits
+    cond-false (ltb (length xs) n) (packet_fault 21 (p + 2)) _ g.inside
+    ∙ cond-true (size_fits i n) _ (packet_fault 22 (p + 2)) g.fits
     ∙ ap (λ w. Ok w) (sym g.is)
 
 pub cut_shorter : (p : ℕ) (xs : List ℕ) (q : Item × List ℕ) → cut_of p xs ≡ Ok q → length q.1 + 3 ≤ length xs

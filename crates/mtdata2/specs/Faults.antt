@@ -40,14 +40,14 @@ abbrev pub reported : Fault → Report
 reported f = record { number = number_of f.reason; layer = layer_of f.reason; place = f.place }
 
 module _ {A : Type 0} where
-  abbrev pub frameFault : ℕ → ℕ → Result A Report
-  frameFault n p = Err (record { number = n; layer = layer.Frame; place = p })
+  abbrev pub frame_fault : ℕ → ℕ → Result A Report
+  frame_fault n p = Err (record { number = n; layer = layer.Frame; place = p })
 
-  abbrev pub messageFault : ℕ → ℕ → Result A Report
-  messageFault n p = Err (record { number = n; layer = layer.Message; place = p })
+  abbrev pub message_fault : ℕ → ℕ → Result A Report
+  message_fault n p = Err (record { number = n; layer = layer.Message; place = p })
 
-  abbrev pub packetFault : ℕ → ℕ → Result A Report
-  packetFault n p = Err (record { number = n; layer = layer.Packet; place = p })
+  abbrev pub packet_fault : ℕ → ℕ → Result A Report
+  packet_fault n p = Err (record { number = n; layer = layer.Packet; place = p })
 
 abbrev pub and_then : {A B : Type 0} → Result A Report → (A → Result B Report) → Result B Report
 and_then (Ok x) f = f x

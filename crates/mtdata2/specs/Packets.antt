@@ -2,15 +2,14 @@
 use Rattle.std.specs.Prelude.{◌≡◌, ℕ, zero, suc, ◌+◌, ◌-◌, ◌*◌, ◌<◌, ◌≤◌, Bool, true, cond, List, [], ◌∷◌, ◌++◌, length, take, drop, Some, None, Ok, Err, Option, Result, MatchOption, ◌==◌, nat_lt}
 use Rattle.std.specs.Borrow.{Bor}
 use Rattle.xbus.specs.Numbers.{Bytes, be}
-use Rattle.mti.specs.declared.channel.Kind.{Kind}
 use Rattle.mti.specs.declared.channel.Kind.TheVariants as channel
 use Rattle.mti.specs.declared.output.Output.{Output}
-use Rattle.mti.specs.Identifiers.{known_of, size_of, data_size_of}
+use Rattle.mti.specs.Identifiers.{known_of, data_size_of}
 use Rattle.mtdata2.specs.declared.fault.Fault.{Fault}
 use Rattle.mtdata2.specs.declared.packet.Packet.{Packet}
 use Rattle.mtdata2.specs.declared.packet.Packet.TheVariants as code
 use Rattle.mtdata2.specs.declared.packet.Packets.{Packets}
-use Rattle.mtdata2.specs.Faults.{Report, reported, packetFault, and_then}
+use Rattle.mtdata2.specs.Faults.{Report, reported, packet_fault, and_then}
 
 -- what a packet holds
 pub data Content : Type 0 where
@@ -47,14 +46,14 @@ item_of i xs = record { holds = holds_of i; identifier = i; bytes = xs }
 -- its header stands at the place p
 abbrev pub cut_by : ℕ → ℕ → ℕ → List ℕ → Result (Item × List ℕ) Report
 cut_by p i n xs =
-    cond (nat_lt (length xs) n) (packetFault 21 (p + 2))
-    (cond (size_fits i n) (Ok (item_of i (take n xs), drop n xs)) (packetFault 22 (p + 2)))
+    cond (nat_lt (length xs) n) (packet_fault 21 (p + 2))
+    (cond (size_fits i n) (Ok (item_of i (take n xs), drop n xs)) (packet_fault 22 (p + 2)))
 
 -- the packet at the front of xs, which stands at the place p, and what is behind it
 abbrev pub cut_of : ℕ → List ℕ → Result (Item × List ℕ) Report
-cut_of p [] = packetFault 20 p
-cut_of p (h ∷ []) = packetFault 20 p
-cut_of p (h ∷ l ∷ []) = packetFault 20 p
+cut_of p [] = packet_fault 20 p
+cut_of p (h ∷ []) = packet_fault 20 p
+cut_of p (h ∷ l ∷ []) = packet_fault 20 p
 cut_of p (h ∷ l ∷ n ∷ xs) = cut_by p (h * 256 + l) n xs
 
 -- the packets of xs, of which the first stands at the place p, at most k

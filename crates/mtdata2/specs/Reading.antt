@@ -4,7 +4,7 @@ use Rattle.xbus.specs.Front.{total}
 use Rattle.mtdata2.specs.declared.fault.Fault.{Fault}
 use Rattle.mtdata2.specs.declared.frame.Body.{Body}
 use Rattle.mtdata2.specs.declared.message.Message.{Message}
-use Rattle.mtdata2.specs.Faults.{Report, reported, frameFault, messageFault, and_then}
+use Rattle.mtdata2.specs.Faults.{Report, reported, frame_fault, message_fault, and_then}
 use Rattle.mtdata2.specs.Packets.{Item, packets_from, handed_out}
 
 -- a frame's address, identifier, where its data start, and its data
@@ -22,26 +22,26 @@ body_of a i start n xs =
     cond (length xs == start + n + 1)
     (cond (total (drop 1 xs) % 256 == 0)
     (Ok (record { address = a; identifier = i; start = start; content = take n (drop start xs) }))
-    (frameFault 17 (length xs - 1)))
-    (frameFault 15 (length xs))
+    (frame_fault 17 (length xs - 1)))
+    (frame_fault 15 (length xs))
 
 -- xs is FA, an address, an identifier, FF and then the list in front
 abbrev pub extended_of : ℕ → ℕ → List ℕ → List ℕ → Result Parts Report
-extended_of a i [] xs = frameFault 15 (length xs)
-extended_of a i (h ∷ []) xs = frameFault 15 (length xs)
+extended_of a i [] xs = frame_fault 15 (length xs)
+extended_of a i (h ∷ []) xs = frame_fault 15 (length xs)
 extended_of a i (h ∷ l ∷ rest) xs =
-    cond (nat_le 255 (h * 256 + l) && nat_le (h * 256 + l) 2048) (body_of a i 6 (h * 256 + l) xs) (frameFault 16 4)
+    cond (nat_le 255 (h * 256 + l) && nat_le (h * 256 + l) 2048) (body_of a i 6 (h * 256 + l) xs) (frame_fault 16 4)
 
 -- xs is FA and then the list in front
 abbrev pub started_of : List ℕ → List ℕ → Result Parts Report
-started_of [] xs = frameFault 15 (length xs)
-started_of (a ∷ []) xs = frameFault 15 (length xs)
-started_of (a ∷ i ∷ []) xs = frameFault 15 (length xs)
+started_of [] xs = frame_fault 15 (length xs)
+started_of (a ∷ []) xs = frame_fault 15 (length xs)
+started_of (a ∷ i ∷ []) xs = frame_fault 15 (length xs)
 started_of (a ∷ i ∷ n ∷ rest) xs = cond (nat_le 255 n) (extended_of a i rest xs) (body_of a i 4 n xs)
 
 abbrev pub frame_of : List ℕ → Result Parts Report
-frame_of [] = frameFault 14 0
-frame_of (x ∷ rest) = cond (x == 0xFA) (started_of rest (x ∷ rest)) (frameFault 14 0)
+frame_of [] = frame_fault 14 0
+frame_of (x ∷ rest) = cond (x == 0xFA) (started_of rest (x ∷ rest)) (frame_fault 14 0)
 
 -- ---- the message
 
@@ -49,8 +49,8 @@ frame_of (x ∷ rest) = cond (x == 0xFA) (started_of rest (x ∷ rest)) (frameFa
 abbrev pub addressed : Parts → Result Parts Report
 addressed b =
     cond (b.address == 0xFF)
-    (cond (b.identifier == 0x36) (cond (length b.content == 0) (messageFault 19 b.start) (Ok b)) (messageFault 18 2))
-    (messageFault 18 1)
+    (cond (b.identifier == 0x36) (cond (length b.content == 0) (message_fault 19 b.start) (Ok b)) (message_fault 18 2))
+    (message_fault 18 1)
 
 abbrev pub message_of : List ℕ → Result Parts Report
 message_of xs = and_then (frame_of xs) addressed

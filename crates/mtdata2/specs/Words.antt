@@ -1,7 +1,6 @@
 -- What reading a data message comes to, in the words of the protocol: accepted, or which fault.
 use Rattle.std.specs.Prelude.{◌≡◌, ℕ, ◌+◌, ◌-◌, ◌*◌, ◌%◌, ◌<◌, ◌≤◌, ◌⊎◌, List, [], ◌∷◌, ◌++◌, length, drop, Some, Ok, Err, ◌≢◌, slice_index}
 use Rattle.std.specs.List.{flat_map}
-use Rattle.xbus.specs.Numbers.{Bytes}
 use Rattle.xbus.specs.Front.{total}
 use Rattle.xbus.specs.Frames.{header_of, encoded}
 use Rattle.mti.specs.Identifiers.{data_size_of}

@@ -1,4 +1,6 @@
 // Data messages: reading one that is handed in whole, and its packets.
+#![tactic(auto)]
+
 mod fault;
 mod frame;
 mod message;

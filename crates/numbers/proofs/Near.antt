@@ -124,11 +124,11 @@ pick_near p n m j P M = elim (le_or_lt (cut p n) j) [
   | inr h ↦
       let k = cut p n in
       let z = 2 ^ (p - 1) * 2 ^ k in
-      let z-is : 2 ^ (p - 1 + k) ≡ z = pow-add 2 (p - 1) k in
-      let y-lt : m * 2 ^ j < 2 ^ p * 2 ^ j = mul-lt-mul_of_pos_right M (pow_pos j) in
+      let z_is : 2 ^ (p - 1 + k) ≡ z = pow-add 2 (p - 1) k in
+      let y_lt : m * 2 ^ j < 2 ^ p * 2 ^ j = mul-lt-mul_of_pos_right M (pow_pos j) in
       let up : 2 ^ p * 2 ^ j ≤ z =
-      le_trans (le_of_eq (sym (pow-add 2 p j))) (le_trans (pow_mono {i = p + j} {j = p - 1 + k} (omega arith)) (le_of_eq z-is)) in
-      let z-le : z ≤ n = le_trans (le_of_eq (sym z-is)) (reached p n P (omega arith)) in
-      farther (pick p n % 2 ≡ 0) (pick p n * 2 ^ k) n z (m * 2 ^ j) (lt_of_lt_of_le y-lt up) z-le
+      le_trans (le_of_eq (sym (pow-add 2 p j))) (le_trans (pow_mono {i = p + j} {j = p - 1 + k} (omega arith)) (le_of_eq z_is)) in
+      let z_le : z ≤ n = le_trans (le_of_eq (sym z_is)) (reached p n P (omega arith)) in
+      farther (pick p n % 2 ≡ 0) (pick p n * 2 ^ k) n z (m * 2 ^ j) (lt_of_lt_of_le y_lt up) z_le
       (closest_near n (2 ^ k) (2 ^ (p - 1)) (pow_pos k))
 ]

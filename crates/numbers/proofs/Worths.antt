@@ -40,51 +40,51 @@ module _ (f : Format) (s : Bool) (n : ℕ) (h : n ≤ 2 ^ 47) where
   bits : ℕ
   bits = to_bits f (round f s n (2 ^ 32))
 
-  bits-value : HasValue (of_bits f bits) s (picked f n) (2 ^ low f)
+  bits_value : HasValue (of_bits f bits) s (picked f n) (2 ^ low f)
   unfolding bits
-  bits-value =
+  bits_value =
       let x = round f s n (2 ^ 32) in
       subst (λ (y : Float). HasValue y s (picked f n) (2 ^ low f)) (sym (of_bits-to_bits f x (round-fits f s n (2 ^ 32))))
       (round_value f s n h)
 
-  bits-finite : Finite f bits
-  bits-finite = value_finite f bits s (picked f n) (2 ^ low f) bits-value
+  bits_finite : Finite f bits
+  bits_finite = value_finite f bits s (picked f n) (2 ^ low f) bits_value
 
-  bits-fields : (leb (top f) bits ≡ s) × (magnitude f (exponent f bits) (fraction f bits) ≡ picked f n)
-  bits-fields = value_fields f bits s (picked f n) bits-finite bits-value
+  bits_fields : (leb (top f) bits ≡ s) × (magnitude f (exponent f bits) (fraction f bits) ≡ picked f n)
+  bits_fields = value_fields f bits s (picked f n) bits_finite bits_value
 
-  bits-worth : worth f bits ≡ signed s (picked f n)
-  bits-worth =
-      ap (λ (t : Bool). signed t (magnitude f (exponent f bits) (fraction f bits))) bits-fields.0
-      ∙ ap (signed s) bits-fields.1
+  bits_worth : worth f bits ≡ signed s (picked f n)
+  bits_worth =
+      ap (λ (t : Bool). signed t (magnitude f (exponent f bits) (fraction f bits))) bits_fields.0
+      ∙ ap (signed s) bits_fields.1
 
-  bits-even : Even → bits % 2 ≡ 0
-  bits-even e = even_bits f bits (digits f n) (dropped f n) (digits_le f n) bits-fields.1 e
+  bits_even : Even → bits % 2 ≡ 0
+  bits_even e = even_bits f bits (digits f n) (dropped f n) (digits_le f n) bits_fields.1 e
 
-  bits-near : (c : ℕ) → SignedNear Even (signed s (picked f n)) (signed s (target f n)) (worth f c)
-  bits-near c =
+  bits_near : (c : ℕ) → SignedNear Even (signed s (picked f n)) (signed s (target f n)) (worth f c)
+  bits_near c =
       any_sign Even s (leb (top f) c) (picked f n) (target f n) (magnitude f (exponent f c) (fraction f c))
       (picked_near f (target f n) (exponent f c) (fraction f c) (fraction_lt f c))
       (picked_near f (target f n) 0 0 (hid_pos f))
 
-  bits-nearest : (v : ℤ) → exactly f v ≡ signed s (target f n) → Nearest f v bits
-  bits-nearest v e = record {
-    finite = bits-finite;
-    nearest = λ c k. rw (e, bits-worth) (bits-near c).near;
+  bits_nearest : (v : ℤ) → exactly f v ≡ signed s (target f n) → Nearest f v bits
+  bits_nearest v e = record {
+    finite = bits_finite;
+    nearest = λ c k. rw (e, bits_worth) (bits_near c).near;
     even = λ c k q.
         let tie : distance (worth f c) (signed s (target f n)) ≡ distance (signed s (picked f n)) (signed s (target f n)) =
-        ap (distance (worth f c)) (sym e) ∙ q ∙ ap (λ (z : ℤ). distance z (exactly f v)) bits-worth
+        ap (distance (worth f c)) (sym e) ∙ q ∙ ap (λ (z : ℤ). distance z (exactly f v)) bits_worth
         ∙ ap (distance (signed s (picked f n))) e in
-        elim ((bits-near c).tied tie) [
-          | inl w ↦ inl (w ∙ sym bits-worth)
-          | inr w ↦ inr (bits-even w)
+        elim ((bits_near c).tied tie) [
+          | inl w ↦ inl (w ∙ sym bits_worth)
+          | inr w ↦ inr (bits_even w)
         ];
   }
 
 nearest_is : (f : Format) (v : ℤ) → in_range v ≡ true → Nearest f v (to_bits f (rounded f v))
 unfolding bits
-nearest_is f (pos n) h = let l = in_range_size (pos n) h in bits-nearest f false n (omega arith) (pos n) refl
-nearest_is f (negsuc n) h = let l = in_range_size (negsuc n) h in bits-nearest f true (suc n) (omega arith) (negsuc n) refl
+nearest_is f (pos n) h = let l = in_range_size (pos n) h in bits_nearest f false n (omega arith) (pos n) refl
+nearest_is f (negsuc n) h = let l = in_range_size (negsuc n) h in bits_nearest f true (suc n) (omega arith) (negsuc n) refl
 
 pub single_nearest : (v : ℤ) → in_range v ≡ true → Nearest binary32 v (number_of (encoded Single v))
 unfolding code_of
@@ -105,7 +105,7 @@ exact_at : (s : Bool) (n : ℕ) (v : ℤ) → n ≤ 2 ^ 47 → exactly binary64 
     → Exact binary64 v (to_bits binary64 (round binary64 s n (2 ^ 32)))
 unfolding bits
 exact_at s n v h e =
-    record { finite = bits-finite binary64 s n h; exact = bits-worth binary64 s n h ∙ ap (signed s) (whole n h) ∙ sym e }
+    record { finite = bits_finite binary64 s n h; exact = bits_worth binary64 s n h ∙ ap (signed s) (whole n h) ∙ sym e }
 
 exact_is : (v : ℤ) → in_range v ≡ true → Exact binary64 v (to_bits binary64 (rounded binary64 v))
 exact_is (pos n) h = let l = in_range_size (pos n) h in exact_at false n (pos n) (omega arith) refl

@@ -1,4 +1,6 @@
 // A sensor reading as the bytes that are sent, in four precisions.
+#![tactic(auto)]
+
 mod fixed;
 mod floats;
 mod put;

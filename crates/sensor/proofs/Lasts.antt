@@ -53,9 +53,9 @@ module _ (c t : ℕ) where
     none_after = l.none_after;
   }
 
-  found-more : (f : Option Row) (x : Row) (xs : List Row) (o : Option Row)
+  found_more : (f : Option Row) (x : Row) (xs : List Row) (o : Option Row)
       → Found (chosen_of c t f x) xs o → Found f (x ∷ xs) o
-  found-more f x xs o h =
+  found_more f x xs o h =
       ⊎_elim
       (λ n.
       ⊎_elim
@@ -74,7 +74,7 @@ module _ (c t : ℕ) where
   found f [] = inl (tt, refl)
   found f (x ∷ xs) =
       let g = chosen_of c t f x in
-      found-more f x xs (fold (chosen_of c t) g xs) (found g xs)
+      found_more f x xs (fold (chosen_of c t) g xs) (found g xs)
 
 -- ---- the reading
 

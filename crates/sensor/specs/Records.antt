@@ -1,5 +1,5 @@
 -- Recorded rows, and what a sensor means that replays them. Assumes nothing.
-use Rattle.std.specs.Prelude.{◌≡◌, ℕ, ◌≤◌, Bool, cond, ◌&&◌, ◌⊎◌, List, [], ◌∷◌, ◌++◌, ℤ, pos, Some, None, fold, Option, ◌==◌, nat_le, slice_index_or}
+use Rattle.std.specs.Prelude.{◌≡◌, ℕ, ◌≤◌, Bool, cond, ◌&&◌, ◌⊎◌, List, ◌∷◌, ◌++◌, ℤ, pos, Some, None, fold, Option, ◌==◌, nat_le, slice_index_or}
 use Rattle.std.specs.Option.{option_map, option_flatten}
 use Rattle.std.specs.List.{AllByRecursion as All}
 use Rattle.mti.specs.declared.channel.Kind.{Kind}

@@ -1,4 +1,6 @@
 // What a unit measures: sensors, among them a synthetic one and one that replays recorded rows.
+#![tactic(auto)]
+
 mod questions;
 mod ramps;
 mod ranges;

@@ -27,36 +27,36 @@ abbrev pub serving : Model → List ℕ → ℕ → Step
 serving m w k = served m.device_id (front_parts w k) m.core
 
 module _ (m : Model) (n : ℕ) where
-  pub power-by : (P : Called ℕ → Type 0) → ((e : Refusal) → P (refuses m e))
+  pub power_by : (P : Called ℕ → Type 0) → ((e : Refusal) → P (refuses m e))
       → (powered m ≡ false → P (writes m (woken m.core, wake_up))) → P (power_call m n)
   unfolding power_call
-  power-by P ref done =
+  power_by P ref done =
       cond_both (powered m) _ _ P (λ _. ref refusal.AlreadyPowered)
       (λ d. cond_both (ltb n least_tray) _ _ P (λ _. ref refusal.ShortTray) (λ _. done d))
 
-  quiet-parts : (b : Bool) → is_whole m.waiting ≡ b → is_some (first_parts m.waiting) ≡ b
-  quiet-parts true e = let q = is_whole m.waiting e in ap is_some (parts_whole m.waiting q.0 q.1)
-  quiet-parts false e = ap is_some (parts_none m.waiting e)
+  quiet_parts : (b : Bool) → is_whole m.waiting ≡ b → is_some (first_parts m.waiting) ≡ b
+  quiet_parts true e = let q = is_whole m.waiting e in ap is_some (parts_whole m.waiting q.0 q.1)
+  quiet_parts false e = ap is_some (parts_none m.waiting e)
 
-  pub tick-by : (P : Called ℕ → Type 0) → ((e : Refusal) → P (refuses m e))
+  pub tick_by_lem : (P : Called ℕ → Type 0) → ((e : Refusal) → P (refuses m e))
       → (powered m ≡ true → is_whole m.waiting ≡ false → too_long m ≡ false → P (writes m (tick m.device_id m.meaning m.core)))
       → P (tick_call m n)
   unfolding tick_call
-  tick-by P ref done =
+  tick_by_lem P ref done =
       cond_both (powered m) _ _ P
       (λ d. cond_both (ltb n least_tray) _ _ P (λ _. ref refusal.ShortTray)
       (λ _. cond_both (is_some (first_parts m.waiting)) _ _ P (λ _. ref refusal.FrameWaits)
       (λ q. cond_both (too_long m) _ _ P (λ _. ref refusal.TooLong)
-      (λ t. done d (sym (quiet-parts (is_whole m.waiting) refl) ∙ q) t))))
+      (λ t. done d (sym (quiet_parts (is_whole m.waiting) refl) ∙ q) t))))
       (λ _. ref refusal.Dark)
 
-  pub feed-by : (bs : List ℕ) (P : Called Fed → Type 0) → ((e : Refusal) → P (refuses m e))
+  pub feed_by_lem : (bs : List ℕ) (P : Called Fed → Type 0) → ((e : Refusal) → P (refuses m e))
       → (powered m ≡ true → is_whole (filled m.waiting bs) ≡ false → P (takes (fills m.waiting bs) (fill m bs)))
       → ((k : ℕ) → powered m ≡ true → front_of (filled m.waiting bs) ≡ Whole k
       → P (serves (fills m.waiting bs) (fill m bs) (serving m (filled m.waiting bs) k)))
       → P (feed_call m bs n)
   unfolding feed_call
-  feed-by bs P ref waits serve =
+  feed_by_lem bs P ref waits serve =
       let w : List ℕ = filled m.waiting bs in
       let Q : Option Parts → Type 0 = λ o. P (feed_by (fills m.waiting bs) (fill m bs) o) in
       cond_both (powered m) _ _ P
@@ -83,20 +83,20 @@ pub data Went (m : Model) : Model → List ℕ → List Event → ℕ → List �
       (Beat ∷ []) 0 [] (λ _. Some ticks) (λ fs. fs)
 
 module _ (m : Model) (n : ℕ) where
-  went-power : let c = power_call m n in Went m c.0 c.1 (if_accepted On c.2) 0 [] (λ _. accepted powers c.2) (λ fs. fs)
-  went-power =
-      power-by m n (λ c. Went m c.0 c.1 (if_accepted On c.2) 0 [] (λ _. accepted powers c.2) (λ fs. fs))
+  went_power : let c = power_call m n in Went m c.0 c.1 (if_accepted On c.2) 0 [] (λ _. accepted powers c.2) (λ fs. fs)
+  went_power =
+      power_by m n (λ c. Went m c.0 c.1 (if_accepted On c.2) 0 [] (λ _. accepted powers c.2) (λ fs. fs))
       (λ _. refused) (λ d. woke d)
 
-  went-tick : let c = tick_call m n in Went m c.0 c.1 (if_accepted Beat c.2) 0 [] (λ _. accepted ticks c.2) (λ fs. fs)
-  went-tick =
-      tick-by m n (λ c. Went m c.0 c.1 (if_accepted Beat c.2) 0 [] (λ _. accepted ticks c.2) (λ fs. fs))
+  went_tick : let c = tick_call m n in Went m c.0 c.1 (if_accepted Beat c.2) 0 [] (λ _. accepted ticks c.2) (λ fs. fs)
+  went_tick =
+      tick_by_lem m n (λ c. Went m c.0 c.1 (if_accepted Beat c.2) 0 [] (λ _. accepted ticks c.2) (λ fs. fs))
       (λ _. refused) (λ d q t. beat d q t)
 
-  went-feed : (bs : List ℕ) → let c = feed_call m bs n in
+  went_feed : (bs : List ℕ) → let c = feed_call m bs n in
       Went m c.0 c.1 (map Byte (taken_by bs c.2)) (served_by c.2) (taken_by bs c.2) (λ fs. fed_frame fs c.2) (λ fs. fed_rest fs c.2)
-  went-feed bs =
-      feed-by m n bs
+  went_feed bs =
+      feed_by_lem m n bs
       (λ c. Went m c.0 c.1 (map Byte (taken_by bs c.2)) (served_by c.2) (taken_by bs c.2) (λ fs. fed_frame fs c.2) (λ fs. fed_rest fs c.2))
       (λ _. refused) (λ d q. took bs d q) (λ k d f. answered bs k d f)
 
@@ -106,12 +106,12 @@ pub went : (m : Model) (e : Entry) → Fair m e
 unfolding next
 went m (Power n o a) (f, g) =
     subst₂ (λ (x : List ℕ) (y : Result ℕ Refusal). Went m (power_call m n).0 x (if_accepted On y) 0 [] (λ _. accepted powers y) (λ fs. fs))
-    (sym f) (sym g) (went-power m n)
+    (sym f) (sym g) (went_power m n)
 went m (Feed bs n o a) (f, g) =
     subst₂
     (λ (x : List ℕ) (y : Result Fed Refusal).
     Went m (feed_call m bs n).0 x (map Byte (taken_by bs y)) (served_by y) (taken_by bs y) (λ fs. fed_frame fs y) (λ fs. fed_rest fs y))
-    (sym f) (sym g) (went-feed m n bs)
+    (sym f) (sym g) (went_feed m n bs)
 went m (Tick n o a) (f, g) =
     subst₂ (λ (x : List ℕ) (y : Result ℕ Refusal). Went m (tick_call m n).0 x (if_accepted Beat y) 0 [] (λ _. accepted ticks y) (λ fs. fs))
-    (sym f) (sym g) (went-tick m n)
+    (sym f) (sym g) (went_tick m n)

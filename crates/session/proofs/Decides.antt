@@ -73,14 +73,14 @@ module _ (p : Product) (i : ℕ) (xs : List ℕ) where
       cond_both (eqb i k) (ask_or_set q fits ch xs) d (Facts (Some Config) i xs)
       (λ e. subst (λ (j : ℕ). Facts (Some Config) j xs (ask_or_set q fits ch xs)) (sym (eqb-true i k e)) (asked_facts k q fits ch f g xs)) (λ _. rest)
 
-  mode-facts : (d : Decision) → Facts (Some Config) i xs d → Facts (Some Config) i xs (cond (eqb i 0xDA) (error_mode p xs) d)
-  mode-facts d f =
+  mode_facts : (d : Decision) → Facts (Some Config) i xs d → Facts (Some Config) i xs (cond (eqb i 0xDA) (error_mode p xs) d)
+  mode_facts d f =
       cond_both (has_error_mode p) _ _ (λ e. Facts (Some Config) i xs (cond (eqb i 0xDA) e d))
       (λ _. two 0xDA _ _ _ _ (signs refl refl refl refl refl refl) (λ _ _. refl) f)
       (λ _. cond_both (eqb i 0xDA) _ _ (Facts (Some Config) i xs) (λ _. refl) (λ _. f))
 
-  config-facts : Facts (Some Config) i xs (in_config p i xs)
-  config-facts =
+  config_facts : Facts (Some Config) i xs (in_config p i xs)
+  config_facts =
       one Config 0x30 _ _ refl (signs refl refl refl refl refl refl)
       (one Config 0x10 _ _ refl (signs refl refl refl refl refl refl)
       (one Config 0x40 _ _ refl (signs refl refl refl refl refl refl)
@@ -90,14 +90,14 @@ module _ (p : Product) (i : ℕ) (xs : List ℕ) where
       (one Config 0x12 _ _ refl (signs refl refl refl refl refl refl)
       (one Config 0x0C _ _ refl (signs refl refl refl refl refl refl)
       (two 0x18 _ _ _ _ (signs refl refl refl refl refl refl) (λ _ _. refl)
-      (mode-facts _
+      (mode_facts _
       (two 0x84 _ _ _ _ (signs refl refl refl refl refl refl) (λ _ _. refl)
       (two 0x64 _ _ _ _ (signs refl refl refl refl refl refl) (λ _ _. refl)
       (two 0x48 _ _ _ _ (signs refl refl refl refl refl refl) (λ _ _. refl)
       (two 0xC0 _ _ _ _ (signs refl refl refl refl refl refl) (λ _ _. refl) refl)))))))))))))
 
-  measurement-facts : Facts (Some Measurement) i xs (in_measurement i xs)
-  measurement-facts =
+  measurement_facts : Facts (Some Measurement) i xs (in_measurement i xs)
+  measurement_facts =
       one Measurement 0x30 _ _ refl (signs refl refl refl refl refl refl)
       (one Measurement 0x40 _ _ refl (signs refl refl refl refl refl refl) refl)
 
@@ -110,5 +110,5 @@ waking_facts i xs =
 pub decided_facts : (s : State) (p : Product) (i : ℕ) (xs : List ℕ) → Facts (Some s) i xs (decided s p i xs)
 unfolding decided
 decided_facts WakeUp p i xs = waking_facts i xs
-decided_facts Config p i xs = config-facts p i xs
-decided_facts Measurement p i xs = measurement-facts p i xs
+decided_facts Config p i xs = config_facts p i xs
+decided_facts Measurement p i xs = measurement_facts p i xs

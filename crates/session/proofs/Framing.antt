@@ -26,7 +26,7 @@ use Rattle.session.proofs.Below.{changed_valid, answer_bytes, answer_short, conf
 use Rattle.session.proofs.Packed.{packets_bytes}
 use Rattle.session.proofs.Ways.{Way, powering, silent, waking, refused, configuring, measured, resetting, asking, saving, changing, sleeping, pausing, passing, idle, sampling}
 use Rattle.session.proofs.Happens.{Happens, happens_way}
-use Rattle.session.proofs.Told.{Row, tick_row, row_of, way-told}
+use Rattle.session.proofs.Told.{Row, tick_row, row_of, way_told}
 
 -- bytes that are so many frames
 abbrev Framed : List ℕ → ℕ → Type 0
@@ -100,31 +100,31 @@ packets_at_bytes w c e =
     subst (λ (o : Option State). Bytes (flat_map packet_bytes (packets_by w.meaning o c))) (sym e) (packets_bytes w.meaning c.counts c.settings.entries)
 
 module _ {w : World} {c : Core} where
-  way-frames : {h : Happening} {s : Step} (g : Way w c h s) → valid c.settings ≡ true
+  way_frames : {h : Happening} {s : Step} (g : Way w c h s) → valid c.settings ≡ true
       → (h ≡ ticks → ltb 2048 (length (flat_map packet_bytes (packets_at w.meaning c))) ≡ false) → Framed s.1 (counted (row_of g))
-  way-frames powering v short = one wake_up wake_frame
-  way-frames (silent _) v short = none
-  way-frames (waking _) v short = none
-  way-frames (refused {p} xs h _ b s) v short = one (error p xs) (framed p.address 0x42 xs (address_byte p h) (omega arith) b s)
-  way-frames (configuring {p} f) v short = one (reply p []) (reply_frame p [] f.here tt (omega arith))
-  way-frames (measured {p} f) v short = two (reply p []) _ (reply_frame p [] f.here tt (omega arith)) (configuration_frame w.device_id c.settings v)
-  way-frames (resetting {p} f) v short = two (reply p []) wake_up (reply_frame p [] f.here tt (omega arith)) wake_frame
-  way-frames (asking {p} q f) v short =
+  way_frames powering v short = one wake_up wake_frame
+  way_frames (silent _) v short = none
+  way_frames (waking _) v short = none
+  way_frames (refused {p} xs h _ b s) v short = one (error p xs) (framed p.address 0x42 xs (address_byte p h) (omega arith) b s)
+  way_frames (configuring {p} f) v short = one (reply p []) (reply_frame p [] f.here tt (omega arith))
+  way_frames (measured {p} f) v short = two (reply p []) _ (reply_frame p [] f.here tt (omega arith)) (configuration_frame w.device_id c.settings v)
+  way_frames (resetting {p} f) v short = two (reply p []) wake_up (reply_frame p [] f.here tt (omega arith)) wake_frame
+  way_frames (asking {p} q f) v short =
       one _ (reply_frame p (answer_of w.device_id c.settings q) f.here (answer_bytes _ _ q v) (answer_short _ _ q v))
-  way-frames (saving {p} ch s f e _ _) v short =
+  way_frames (saving {p} ch s f e _ _) v short =
       one _ (shown_frame p c.settings s ch f.here e)
-  way-frames (changing {p} ch s f e _) v short =
+  way_frames (changing {p} ch s f e _) v short =
       one _ (shown_frame p c.settings s ch f.here e)
-  way-frames (sleeping _ _) v short = none
-  way-frames (pausing _ _ _) v short = none
-  way-frames (passing _ _ _) v short = one _ (configuration_frame w.device_id c.settings v)
-  way-frames (idle _) v short = none
-  way-frames (sampling e) v short = sample_frames (packets_at w.meaning c) (packets_at_bytes w c e) (ltb-false 2048 _ (short refl))
+  way_frames (sleeping _ _) v short = none
+  way_frames (pausing _ _ _) v short = none
+  way_frames (passing _ _ _) v short = one _ (configuration_frame w.device_id c.settings v)
+  way_frames (idle _) v short = none
+  way_frames (sampling e) v short = sample_frames (packets_at w.meaning c) (packets_at_bytes w c e) (ltb-false 2048 _ (short refl))
 
 pub happens_frames : (w : World) (m : Moment) → Happens w m
     → (fs : List (List ℕ)) × EachFrame fs × (flat_map (λ f. f) fs ≡ m.wrote)
     × (length fs ≡ one_if (is_request m) + one_if (is_wake_up m) + one_if (is_passage m) + one_if (is_sample w.meaning m))
 happens_frames w m h =
     let g = happens_way w m h in
-    let t = way-told w m.before g in
-    rw (t.request, t.wake_up_lem, t.passage, t.sample) (way-frames g h.sound h.short)
+    let t = way_told w m.before g in
+    rw (t.request, t.wake_up_lem, t.passage, t.sample) (way_frames g h.sound h.short)

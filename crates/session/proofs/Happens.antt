@@ -9,7 +9,7 @@ use Rattle.session.specs.Ticking.{packets_at}
 use Rattle.session.specs.Moments.{Moment, ticks}
 use Rattle.session.specs.Counting.{is_power}
 use Rattle.session.specs.Laws.{Done}
-use Rattle.session.proofs.Ways.{Way, does-way}
+use Rattle.session.proofs.Ways.{Way, does_way}
 
 pub record Happens (w : World) (m : Moment) : Type 0 where
   pub done : Done w m
@@ -21,4 +21,4 @@ pub record Happens (w : World) (m : Moment) : Type 0 where
   pub short : m.what ≡ ticks → ltb 2048 (length (flat_map packet_bytes (packets_at w.meaning m.before))) ≡ false
 
 pub happens_way : (w : World) (m : Moment) → Happens w m → Way w m.before m.what (m.after, m.wrote)
-happens_way w m h = subst (λ (s : Step). Way w m.before m.what s) (sym h.done) (does-way w m.before m.what h.lit)
+happens_way w m h = subst (λ (s : Step). Way w m.before m.what s) (sym h.done) (does_way w m.before m.what h.lit)

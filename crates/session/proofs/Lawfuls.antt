@@ -29,33 +29,33 @@ frames_only [] = refl
 frames_only (f ∷ fs) = ap (λ (x : List (List ℕ)). f ∷ x) (frames_only fs)
 
 module _ (xs : List ℕ) (n : ℕ) (f : Frames xs n) where
-  read-frames : read_of xs ≡ map frame f.list
-  read-frames = ap read_of (sym f.bytes) ∙ frames_are_read f.list f.each
+  read_frames : read_of xs ≡ map frame f.list
+  read_frames = ap read_of (sym f.bytes) ∙ frames_are_read f.list f.each
 
-  in-frames : frames_in xs ≡ f.list
+  in_frames : frames_in xs ≡ f.list
   unfolding frames_in
-  in-frames = ap frames_of read-frames ∙ frames_only f.list
+  in_frames = ap frames_of read_frames ∙ frames_only f.list
 
   pub all_read : read_of xs ≡ map frame (frames_in xs)
-  all_read = read-frames ∙ ap (map frame) (sym in-frames)
+  all_read = read_frames ∙ ap (map frame) (sym in_frames)
 
-  pub all-counted : length (frames_in xs) ≡ n
-  all-counted = ap length in-frames ∙ f.many
+  pub all_counted : length (frames_in xs) ≡ n
+  all_counted = ap length in_frames ∙ f.many
 
 -- ---- what was told from the making
 
 module _ (w : World) (es : List Entry) (k : Model) where
-  moments-told : Session (making w) es k → Told w (making w) k es (frames_in (bytes_taken es))
+  moments_told : Session (making w) es k → Told w (making w) k es (frames_in (bytes_taken es))
   unfolding making
-  moments-told s = told w es (making w) k (inv_making w) s
+  moments_told s = told w es (making w) k (inv_making w) s
 
-  left-told : Told w (making w) k es (frames_in (bytes_taken es)) → left_in (bytes_taken es) ≡ left_in k.waiting
+  left_told : Told w (making w) k es (frames_in (bytes_taken es)) → left_in (bytes_taken es) ≡ left_in k.waiting
   unfolding making
-  left-told t = t.left
+  left_told t = t.left
 
-  dark-told : (making w).core.state ≡ None
+  dark_told : (making w).core.state ≡ None
   unfolding making
-  dark-told = refl
+  dark_told = refl
 
   store_told : (making w).core.store ≡ w.store
   unfolding making
@@ -64,10 +64,10 @@ module _ (w : World) (es : List Entry) (k : Model) where
 pub lawful : (w : World) (es : List Entry) (k : Model) → Session (making w) es k → Lawful w es k
 unfolding moments
 lawful w es k s =
-    let t = moments-told w es k s in
+    let t = moments_told w es k s in
     let ms : List Moment = moments_from (making w) (frames_in (bytes_taken es)) es in
     let out = subst (λ (x : List ℕ). Frames x (moment_frames w.meaning ms)) t.wrote (tale_frames w ms t.each) in
-    let l = left-told w es k t in
+    let l = left_told w es k t in
     let Chain : List Moment → Type 0 = λ xs. Linked (making w).core xs k.core in
     record {
       alike = λ v ds j a r e p q. agreeing v w ds es j k a r s e p q;
@@ -84,9 +84,9 @@ lawful w es k s =
       done = all_of (Happens w) (Done w) (λ m h. h.done) ms t.each;
       replied = all_of (Happens w) (λ m. (p : Parts) → m.what ≡ serves p → Replied p m) (λ m h. happens_replied w m h) ms t.each;
       restores = λ a b c x r e. tale_restores w a b c x r (making w).core k.core (subst (All (Happens w)) e t.each) (subst Chain e t.linked);
-      restorable = λ a c r e. tale_restorable w a c r (making w).core k.core (subst (All (Happens w)) e t.each) (subst Chain e t.linked) (dark-told w es k);
+      restorable = λ a c r e. tale_restorable w a c r (making w).core k.core (subst (All (Happens w)) e t.each) (subst Chain e t.linked) (dark_told w es k);
       all_frames = all_read (written es) (moment_frames w.meaning ms) out;
-      counted = all-counted (written es) (moment_frames w.meaning ms) out;
+      counted = all_counted (written es) (moment_frames w.meaning ms) out;
       cost = ap (λ (x : Kept). x.left) (sym (store_told w es k)) ∙ tale_cost w ms (making w).core k.core t.each t.linked;
       held = tale_held w ms (making w).core k.core t.each t.linked ∙ ap (λ (x : Kept). last_image x.held ms) (store_told w es k);
     }

@@ -36,31 +36,31 @@ measured_same r s p (Whole w) h = ap (option_map (whole_bytes w)) (h 0 (omega ar
 
 module _ (f g : Meaning) (n : Counts) (same : SameMeaning f g) (small : n.number < 2 ^ 32) where
   -- the status word, of which the status byte is a part, stands in the table too
-  status-same : f 0xE020 0 n.number ≡ g 0xE020 0 n.number
+  status_same : f 0xE020 0 n.number ≡ g 0xE020 0 n.number
   unfolding channel_of
-  status-same = same _ 0 n.number (row_of_channel 0xE020 _ refl).0 (omega arith) small
+  status_same = same _ 0 n.number (row_of_channel 0xE020 _ refl).0 (omega arith) small
 
-  data-meant : (o : Output) → Row o.channel → data_of f n o ≡ data_of g n o
+  data_meant : (o : Output) → Row o.channel → data_of f n o ≡ data_of g n o
   unfolding data_of
-  data-meant o r =
+  data_meant o r =
       let others = measured_same (λ k. f o.channel.identifier k n.number) (λ k. g o.channel.identifier k n.number) o.precision
       o.channel.kind (λ j l. same o.channel j n.number r l small) in
-      rw (status-same, others)
+      rw (status_same, others)
 
-  by-meant : (r : Option Output) (i : ℕ) → known_of i ≡ r → data_by f n r ≡ data_by g n r
-  by-meant None i k = refl
-  by-meant (Some o) i k = data-meant o (known_sound i o k).row
+  by_meant : (r : Option Output) (i : ℕ) → known_of i ≡ r → data_by f n r ≡ data_by g n r
+  by_meant None i k = refl
+  by_meant (Some o) i k = data_meant o (known_sound i o k).row
 
-  all-meant : (es : List Entry) → packets f n es ≡ packets g n es
+  all_meant : (es : List Entry) → packets f n es ≡ packets g n es
   unfolding packets
-  all-meant [] = refl
-  all-meant (e ∷ es) =
-      let here = by-meant (known_of e.identifier) e.identifier refl in
-      let rest = all-meant es in
+  all_meant [] = refl
+  all_meant (e ∷ es) =
+      let here = by_meant (known_of e.identifier) e.identifier refl in
+      let rest = all_meant es in
       λ i. cond (due n.phase e) (packet_by e.identifier (here i) (rest i)) (rest i)
 
 pub packets_meant : (f g : Meaning) (n : Counts) (es : List Entry) → SameMeaning f g → n.number < 2 ^ 32 → packets f n es ≡ packets g n es
-packets_meant f g n es same small = all-meant f g n same small es
+packets_meant f g n es same small = all_meant f g n same small es
 
 pub at_meant : (f g : Meaning) (c : Core) → SameMeaning f g → c.counts.number < 2 ^ 32 → packets_at f c ≡ packets_at g c
 unfolding packets_at

@@ -115,82 +115,82 @@ reals_missing readings p k (suc n) (suc j) h e =
 
 module _ (f : Meaning) (n : Counts) (o : Output) where
   -- what a sensor is asked for is measured
-  is-measured : made_by_unit o.channel.identifier ≡ false
+  is_measured : made_by_unit o.channel.identifier ≡ false
       → data_of f n o ≡ measured (λ k. f o.channel.identifier k n.number) o.precision o.channel.kind
   unfolding data_of
-  is-measured u =
+  is_measured u =
       let i : ℕ = o.channel.identifier in
       let a = or_parts (eqb i 0x1020) _ u in
       let b = or_parts (eqb i 0x1060) _ a.1 in
       let c = or_parts (eqb i 0x1070) _ b.1 in
       cond-false _ _ _ a.0 ∙ cond-false _ _ _ b.0 ∙ cond-false _ _ _ c.0 ∙ cond-false _ _ _ c.1
 
-  data-there : (xs : List ℕ) → Data f n o xs → data_of f n o ≡ Some xs
+  data_there : (xs : List ℕ) → Data f n o xs → data_of f n o ≡ Some xs
   unfolding data_of
-  data-there xs (counter e x) = rw (e, x)
-  data-there xs (fine_time e x) = rw (e, x) (ap (λ (l : List ℕ). Some l) (sym (low_bytes 4 (5 * n.number))))
-  data-there xs (coarse_time e x) = rw (e, x)
-  data-there xs (status_byte v e r x) = rw (e, x, r)
-  data-there xs (reals k vs u e p x) =
-      is-measured u ∙ ap (measured _ o.precision) e ∙ all_present _ o.precision k vs p ∙ ap (λ (l : List ℕ). Some l) (sym x)
-  data-there xs (whole w v u e r x) =
-      is-measured u ∙ ap (measured _ o.precision) e ∙ ap (option_map (whole_bytes w)) r ∙ ap (λ (l : List ℕ). Some l) (sym x)
+  data_there xs (counter e x) = rw (e, x)
+  data_there xs (fine_time e x) = rw (e, x) (ap (λ (l : List ℕ). Some l) (sym (low_bytes 4 (5 * n.number))))
+  data_there xs (coarse_time e x) = rw (e, x)
+  data_there xs (status_byte v e r x) = rw (e, x, r)
+  data_there xs (reals k vs u e p x) =
+      is_measured u ∙ ap (measured _ o.precision) e ∙ all_present _ o.precision k vs p ∙ ap (λ (l : List ℕ). Some l) (sym x)
+  data_there xs (whole w v u e r x) =
+      is_measured u ∙ ap (measured _ o.precision) e ∙ ap (option_map (whole_bytes w)) r ∙ ap (λ (l : List ℕ). Some l) (sym x)
 
-  number-absent : (kind : Kind) (k : ℕ) → k < count_of kind → f o.channel.identifier k n.number ≡ None
+  number_absent : (kind : Kind) (k : ℕ) → k < count_of kind → f o.channel.identifier k n.number ≡ None
       → measured (λ j. f o.channel.identifier j n.number) o.precision kind ≡ None
-  number-absent (Real m) k h e =
+  number_absent (Real m) k h e =
       let z : 0 + k ≡ k = omega arith in
       reals_missing _ o.precision 0 m k h (ap (λ (j : ℕ). f o.channel.identifier j n.number) z ∙ e)
-  number-absent (Whole w) zero h e = ap (option_map (whole_bytes w)) e
-  number-absent (Whole w) (suc k) h e = absurd (omega arith)
+  number_absent (Whole w) zero h e = ap (option_map (whole_bytes w)) e
+  number_absent (Whole w) (suc k) h e = absurd (omega arith)
 
-  data-absent : Absent f n o → data_of f n o ≡ None
+  data_absent : Absent f n o → data_of f n o ≡ None
   unfolding data_of
-  data-absent (no_status e r) = rw (e, r)
-  data-absent (no_number k u h r) = is-measured u ∙ number-absent o.channel.kind k h r
+  data_absent (no_status e r) = rw (e, r)
+  data_absent (no_number k u h r) = is_measured u ∙ number_absent o.channel.kind k h r
 
   -- one of the two always holds
   abbrev Either : Type 0
   Either = ((xs : List ℕ) × Data f n o xs) ⊎ Absent f n o
 
-  status-or-absent : o.channel.identifier ≡ 0xE010 → (r : Option ℤ) → f 0xE020 0 n.number ≡ r → Either
-  status-or-absent e None r = inr (no_status e r)
-  status-or-absent e (Some v) r = inl (be 1 (twos 1 v), status_byte v e r refl)
+  status_or_absent : o.channel.identifier ≡ 0xE010 → (r : Option ℤ) → f 0xE020 0 n.number ≡ r → Either
+  status_or_absent e None r = inr (no_status e r)
+  status_or_absent e (Some v) r = inl (be 1 (twos 1 v), status_byte v e r refl)
 
-  measured-or-absent : made_by_unit o.channel.identifier ≡ false → (kind : Kind) → o.channel.kind ≡ kind → Either
-  measured-or-absent u (Real k) e = by (present_or_missing (λ j. f o.channel.identifier j n.number) k)
+  measured_or_absent : made_by_unit o.channel.identifier ≡ false → (kind : Kind) → o.channel.kind ≡ kind → Either
+  measured_or_absent u (Real k) e = by (present_or_missing (λ j. f o.channel.identifier j n.number) k)
     where
       by : ((vs : List ℤ) × Present (λ j. f o.channel.identifier j n.number) k vs)
           ⊎ Missing (λ j. f o.channel.identifier j n.number) k → Either
       by (inl p) = inl (flat_map (encoded o.precision) p.0, reals k p.0 u e p.1 refl)
       by (inr m) = inr (no_number m.0 u (rw e m.1) m.2)
-  measured-or-absent u (Whole w) e = by (f o.channel.identifier 0 n.number) refl
+  measured_or_absent u (Whole w) e = by (f o.channel.identifier 0 n.number) refl
     where
       by : (r : Option ℤ) → f o.channel.identifier 0 n.number ≡ r → Either
       by None r = inr (no_number 0 u (rw e (omega arith)) r)
       by (Some v) r = inl (be w (twos w v), whole w v u e r refl)
 
-  data-or-absent : Either
-  data-or-absent =
+  data_or_absent : Either
+  data_or_absent =
       data_by_lem f n o (λ _. Either)
       (λ e. inl (be 2 n.sent, counter e refl))
       (λ e. inl (be 4 (5 * n.number % 2 ^ 32), fine_time e refl))
       (λ e. inl (be 4 n.seconds, coarse_time e refl))
-      (λ e. status-or-absent e (f 0xE020 0 n.number) refl)
-      (λ u. measured-or-absent u o.channel.kind refl)
+      (λ e. status_or_absent e (f 0xE020 0 n.number) refl)
+      (λ u. measured_or_absent u o.channel.kind refl)
 
-  data-sound : (xs : List ℕ) → data_of f n o ≡ Some xs → Data f n o xs
-  data-sound xs e = by data-or-absent
+  data_sound : (xs : List ℕ) → data_of f n o ≡ Some xs → Data f n o xs
+  data_sound xs e = by data_or_absent
     where
       by : Either → Data f n o xs
-      by (inl d) = let h = data-there d.0 d.1 in let same : d.0 ≡ xs = cc in subst (Data f n o) same d.1
-      by (inr a) = absurd (none_not_some xs (sym (data-absent a) ∙ e))
+      by (inl d) = let h = data_there d.0 d.1 in let same : d.0 ≡ xs = cc in subst (Data f n o) same d.1
+      by (inr a) = absurd (none_not_some xs (sym (data_absent a) ∙ e))
 
   no_data : data_of f n o ≡ None → Absent f n o
-  no_data e = by data-or-absent
+  no_data e = by data_or_absent
     where
       by : Either → Absent f n o
-      by (inl d) = absurd (some_not_none d.0 (sym (data-there d.0 d.1) ∙ e))
+      by (inl d) = absurd (some_not_none d.0 (sym (data_there d.0 d.1) ∙ e))
       by (inr a) = a
 
 -- ---- the packets of a tick
@@ -207,26 +207,26 @@ unknown_is i e o k = none_not_some o (sym e ∙ known_complete i o k)
 
 module _ (f : Meaning) (n : Counts) where
   -- an entry that is due, with what the others give
-  gives-due : (e : Entry) (es : List Entry) → due n.phase e ≡ true → Gives f n es (packets f n es)
+  gives_due : (e : Entry) (es : List Entry) → due n.phase e ≡ true → Gives f n es (packets f n es)
       → Gives f n (e ∷ es) (packet_by e.identifier (data_by f n (known_of e.identifier)) (packets f n es))
-  gives-due e es t g = known (known_of e.identifier) refl
+  gives_due e es t g = known (known_of e.identifier) refl
     where
       given : (o : Output) → Known e.identifier o → (r : Option (List ℕ)) → data_of f n o ≡ r
           → Gives f n (e ∷ es) (packet_by e.identifier r (packets f n es))
       given o k None d = omits o k (no_data f n o d) g
-      given o k (Some xs) d = sends o xs ((due_at n.phase e).0 t) k (data-sound f n o xs d) g
+      given o k (Some xs) d = sends o xs ((due_at n.phase e).0 t) k (data_sound f n o xs d) g
 
       known : (r : Option Output) → known_of e.identifier ≡ r
           → Gives f n (e ∷ es) (packet_by e.identifier (data_by f n r) (packets f n es))
       known None k = unknown (unknown_is e.identifier k) g
       known (Some o) k = given o (known_sound e.identifier o k) (data_of f n o) refl
 
-  gives-packets : (es : List Entry) → Gives f n es (packets f n es)
+  gives_packets : (es : List Entry) → Gives f n es (packets f n es)
   unfolding packets
-  gives-packets [] = ends
-  gives-packets (e ∷ es) =
-      cond_both (due n.phase e) _ _ (Gives f n (e ∷ es)) (λ t. gives-due e es t (gives-packets es))
-      (λ t. rests (not_from_Decides (due n.phase e) (due_at n.phase e) t) (gives-packets es))
+  gives_packets [] = ends
+  gives_packets (e ∷ es) =
+      cond_both (due n.phase e) _ _ (Gives f n (e ∷ es)) (λ t. gives_due e es t (gives_packets es))
+      (λ t. rests (not_from_Decides (due n.phase e) (due_at n.phase e) t) (gives_packets es))
 
   -- an entry without data adds nothing, due or not
   skips : (e : Entry) (es : List Entry) → data_by f n (known_of e.identifier) ≡ None → packets f n (e ∷ es) ≡ packets f n es
@@ -235,18 +235,18 @@ module _ (f : Meaning) (n : Counts) where
       cond_both (due n.phase e) _ _ (λ is. is ≡ packets f n es)
       (λ t. ap (λ (r : Option (List ℕ)). packet_by e.identifier r (packets f n es)) d) (λ t. refl)
 
-  gives-only : {es : List Entry} {is : List Item} → Gives f n es is → is ≡ packets f n es
+  gives_only : {es : List Entry} {is : List Item} → Gives f n es is → is ≡ packets f n es
   unfolding packets
-  gives-only ends = refl
-  gives-only (rests {e} {es} {is} r g) =
-      gives-only g
+  gives_only ends = refl
+  gives_only (rests {e} {es} {is} r g) =
+      gives_only g
       ∙ cond_both (due n.phase e) _ _ (λ js. packets f n es ≡ js) (λ t. absurd (r ((due_at n.phase e).0 t))) (λ t. refl)
-  gives-only (unknown {e} {es} {is} h g) = gives-only g ∙ sym (skips e es (ap (data_by f n) (known_none e.identifier h)))
-  gives-only (omits {e} {es} {is} o k a g) =
-      gives-only g ∙ sym (skips e es (ap (data_by f n) (known_complete e.identifier o k) ∙ data-absent f n o a))
-  gives-only (sends {e} {es} {is} o xs d k x g) =
-      let here = ap (data_by f n) (known_complete e.identifier o k) ∙ data-there f n o xs x in
-      ap (λ (js : List Item). item_of e.identifier xs ∷ js) (gives-only g)
+  gives_only (unknown {e} {es} {is} h g) = gives_only g ∙ sym (skips e es (ap (data_by f n) (known_none e.identifier h)))
+  gives_only (omits {e} {es} {is} o k a g) =
+      gives_only g ∙ sym (skips e es (ap (data_by f n) (known_complete e.identifier o k) ∙ data_absent f n o a))
+  gives_only (sends {e} {es} {is} o xs d k x g) =
+      let here = ap (data_by f n) (known_complete e.identifier o k) ∙ data_there f n o xs x in
+      ap (λ (js : List Item). item_of e.identifier xs ∷ js) (gives_only g)
       ∙ sym (ap (λ (r : Option (List ℕ)). packet_by e.identifier r (packets f n es)) here)
       ∙ sym (cond-true (due n.phase e) _ _ ((due_at n.phase e).1 d))
 
@@ -306,11 +306,11 @@ sampled_said = record {
   in_second = due_in_second;
   fastest = due_fastest;
   slowest = due_slowest;
-  data_are = λ f n o. exactly (Data f n o) (data_of f n o) (data-sound f n o) (data-there f n o);
+  data_are = λ f n o. exactly (Data f n o) (data_of f n o) (data_sound f n o) (data_there f n o);
   no_data = no_data;
-  absent = data-absent;
-  gives = gives-packets;
-  only = λ f n es is g. gives-only f n g;
+  absent = data_absent;
+  gives = gives_packets;
+  only = λ f n es is g. gives_only f n g;
   counts = ticks_counted;
   within = tick_within;
 }

@@ -46,68 +46,68 @@ changed_fits : (s t : Values) (ch : Changing) → changed_of s ch ≡ Some t →
 changed_fits s t ch e = record { sound = changed_valid s t ch e; product = changed_product s t ch e }
 
 module _ {w : World} {c : Core} where
-  way-fits : {h : Happening} {s : Step} → Way w c h s → valid c.settings ≡ true → Fits c.settings.product s.0.settings
-  way-fits powering v = woken_fits c
-  way-fits (silent _) v = same_fits c.settings v
-  way-fits (waking _) v = same_fits c.settings v
-  way-fits (refused _ _ _ _ _) v = same_fits c.settings v
-  way-fits (configuring _) v = same_fits c.settings v
-  way-fits (measured _) v = same_fits c.settings v
-  way-fits (resetting _) v = woken_fits c
-  way-fits (asking _ _) v = same_fits c.settings v
-  way-fits (saving ch s _ e _ _) v = changed_fits c.settings s ch e
-  way-fits (changing ch s _ e _) v = changed_fits c.settings s ch e
-  way-fits (sleeping _ _) v = same_fits c.settings v
-  way-fits (pausing _ _ _) v = same_fits c.settings v
-  way-fits (passing _ _ _) v = same_fits c.settings v
-  way-fits (idle _) v = same_fits c.settings v
-  way-fits (sampling _) v = same_fits c.settings v
+  way_fits : {h : Happening} {s : Step} → Way w c h s → valid c.settings ≡ true → Fits c.settings.product s.0.settings
+  way_fits powering v = woken_fits c
+  way_fits (silent _) v = same_fits c.settings v
+  way_fits (waking _) v = same_fits c.settings v
+  way_fits (refused _ _ _ _ _) v = same_fits c.settings v
+  way_fits (configuring _) v = same_fits c.settings v
+  way_fits (measured _) v = same_fits c.settings v
+  way_fits (resetting _) v = woken_fits c
+  way_fits (asking _ _) v = same_fits c.settings v
+  way_fits (saving ch s _ e _ _) v = changed_fits c.settings s ch e
+  way_fits (changing ch s _ e _) v = changed_fits c.settings s ch e
+  way_fits (sleeping _ _) v = same_fits c.settings v
+  way_fits (pausing _ _ _) v = same_fits c.settings v
+  way_fits (passing _ _ _) v = same_fits c.settings v
+  way_fits (idle _) v = same_fits c.settings v
+  way_fits (sampling _) v = same_fits c.settings v
 
-  way-number : {h : Happening} {s : Step} → Way w c h s → c.counts.number < 2 ^ 32 → s.0.counts.number < 2 ^ 32
+  way_number : {h : Happening} {s : Step} → Way w c h s → c.counts.number < 2 ^ 32 → s.0.counts.number < 2 ^ 32
   unfolding woken
-  way-number powering n = omega arith
-  way-number (silent _) n = n
-  way-number (waking _) n = n
-  way-number (refused _ _ _ _ _) n = n
-  way-number (configuring _) n = n
-  way-number (measured _) n = omega arith
-  way-number (resetting _) n = omega arith
-  way-number (asking _ _) n = n
-  way-number (saving _ _ _ _ _ _) n = n
-  way-number (changing _ _ _ _ _) n = n
-  way-number (sleeping _ _) n = n
-  way-number (pausing _ _ _) n = n
-  way-number (passing _ _ _) n = omega arith
-  way-number (idle _) n = n
-  way-number (sampling _) n = omega arith
+  way_number powering n = omega arith
+  way_number (silent _) n = n
+  way_number (waking _) n = n
+  way_number (refused _ _ _ _ _) n = n
+  way_number (configuring _) n = n
+  way_number (measured _) n = omega arith
+  way_number (resetting _) n = omega arith
+  way_number (asking _ _) n = n
+  way_number (saving _ _ _ _ _ _) n = n
+  way_number (changing _ _ _ _ _) n = n
+  way_number (sleeping _ _) n = n
+  way_number (pausing _ _ _) n = n
+  way_number (passing _ _ _) n = omega arith
+  way_number (idle _) n = n
+  way_number (sampling _) n = omega arith
 
-  way-lit : {h : Happening} {s : Step} → Way w c h s → (is_power h ≡ false → is_some c.state ≡ true) → is_some s.0.state ≡ true
+  way_lit : {h : Happening} {s : Step} → Way w c h s → (is_power h ≡ false → is_some c.state ≡ true) → is_some s.0.state ≡ true
   unfolding woken
-  way-lit powering l = refl
-  way-lit (silent _) l = l refl
-  way-lit (waking _) l = refl
-  way-lit (refused _ _ _ _ _) l = l refl
-  way-lit (configuring _) l = refl
-  way-lit (measured _) l = refl
-  way-lit (resetting _) l = refl
-  way-lit (asking _ _) l = l refl
-  way-lit (saving _ _ _ _ _ _) l = l refl
-  way-lit (changing _ _ _ _ _) l = l refl
-  way-lit (sleeping _ _) l = l refl
-  way-lit (pausing _ _ _) l = refl
-  way-lit (passing _ _ _) l = refl
-  way-lit (idle _) l = l refl
-  way-lit (sampling _) l = l refl
+  way_lit powering l = refl
+  way_lit (silent _) l = l refl
+  way_lit (waking _) l = refl
+  way_lit (refused _ _ _ _ _) l = l refl
+  way_lit (configuring _) l = refl
+  way_lit (measured _) l = refl
+  way_lit (resetting _) l = refl
+  way_lit (asking _ _) l = l refl
+  way_lit (saving _ _ _ _ _ _) l = l refl
+  way_lit (changing _ _ _ _ _) l = l refl
+  way_lit (sleeping _ _) l = l refl
+  way_lit (pausing _ _ _) l = refl
+  way_lit (passing _ _ _) l = refl
+  way_lit (idle _) l = l refl
+  way_lit (sampling _) l = l refl
 
 module _ (w : World) (m : Moment) (h : Happens w m) where
-  pub happens-sound : valid m.after.settings ≡ true
-  happens-sound = (way-fits (happens_way w m h) h.sound).sound
+  pub happens_sound : valid m.after.settings ≡ true
+  happens_sound = (way_fits (happens_way w m h) h.sound).sound
 
-  pub happens-product : m.after.settings.product ≡ m.before.settings.product
-  happens-product = (way-fits (happens_way w m h) h.sound).product
+  pub happens_product : m.after.settings.product ≡ m.before.settings.product
+  happens_product = (way_fits (happens_way w m h) h.sound).product
 
-  pub happens-number : m.before.counts.number < 2 ^ 32 → m.after.counts.number < 2 ^ 32
-  happens-number = way-number (happens_way w m h)
+  pub happens_number : m.before.counts.number < 2 ^ 32 → m.after.counts.number < 2 ^ 32
+  happens_number = way_number (happens_way w m h)
 
-  pub happens-lit : is_some m.after.state ≡ true
-  happens-lit = way-lit (happens_way w m h) h.lit
+  pub happens_lit : is_some m.after.state ≡ true
+  happens_lit = way_lit (happens_way w m h) h.lit

@@ -25,7 +25,7 @@ use Rattle.session.proofs.Readings.{Read, reads, onto, Settled, settled_none, se
 use Rattle.session.proofs.Calls.{Went, refused, took, answered, woke, beat, front_parts, serving}
 use Rattle.session.proofs.Flows.{ahead, flow, flow_bytes, flow_reads, flow_on, flow_beat, filled_reads, passed_reads}
 use Rattle.session.proofs.Happens.{Happens}
-use Rattle.session.proofs.Sound.{happens-sound, happens-number, happens-lit}
+use Rattle.session.proofs.Sound.{happens_sound, happens_number, happens_lit}
 
 -- what a unit made from w always is
 pub record Inv (w : World) (m : Model) : Type 0 where
@@ -68,20 +68,20 @@ moment c h s = record { before = c; what = h; wrote = s.1; after = s.0 }
 
 module _ (w : World) (m : Model) (i : Inv w m) where
   -- the core behind a moment keeps what a unit always is
-  inv-after : (h : Happening) (s : Step) (v : List ℕ) → Happens w (moment m.core h s) → Settled v
+  inv_after : (h : Happening) (s : Step) (v : List ℕ) → Happens w (moment m.core h s) → Settled v
       → Inv w (record { device_id = m.device_id; meaning = m.meaning; core = s.0; waiting = v })
-  inv-after h s v x r = record {
+  inv_after h s v x r = record {
     device_id = i.device_id;
     meaning = i.meaning;
-    sound = happens-sound w (moment m.core h s) x;
-    number = happens-number w (moment m.core h s) x i.number;
+    sound = happens_sound w (moment m.core h s) x;
+    number = happens_number w (moment m.core h s) x i.number;
     settled = r;
-    dark = λ d. absurd (true≢false (sym (happens-lit w (moment m.core h s) x) ∙ d));
+    dark = λ d. absurd (true≢false (sym (happens_lit w (moment m.core h s) x) ∙ d));
   }
 
-  step-refused : (fs : List (List ℕ)) → Stepped w m m [] [] 0 None fs fs fs
+  step_refused : (fs : List (List ℕ)) → Stepped w m m [] [] 0 None fs fs fs
   unfolding count
-  step-refused fs = record {
+  step_refused fs = record {
     inv = i;
     unserved = refl;
     passes = refl;
@@ -97,14 +97,14 @@ module _ (w : World) (m : Model) (i : Inv w m) where
     abbrev here : List (List ℕ)
     here = frames_in (m.waiting ++ (take (fills m.waiting bs) bs ++ more))
 
-    taken-reads : reads (m.waiting ++ (take (fills m.waiting bs) bs ++ more)) ≡ reads (filled m.waiting bs ++ more)
-    taken-reads = sym (reads_filled bs m.waiting more)
+    taken_reads : reads (m.waiting ++ (take (fills m.waiting bs) bs ++ more)) ≡ reads (filled m.waiting bs ++ more)
+    taken_reads = sym (reads_filled bs m.waiting more)
 
-    step-took : powered m ≡ true
+    step_took : powered m ≡ true
         → Stepped w m (fill m bs) [] (map Byte (take (fills m.waiting bs) bs)) 0 None here here (frames_in (filled m.waiting bs ++ more))
     unfolding count
-    step-took d =
-        let e : here ≡ frames_in (filled m.waiting bs ++ more) = ap (λ (r : Read). r.0) taken-reads in
+    step_took d =
+        let e : here ≡ frames_in (filled m.waiting bs ++ more) = ap (λ (r : Read). r.0) taken_reads in
         record {
           inv = record {
             device_id = i.device_id;
@@ -132,33 +132,33 @@ module _ (w : World) (m : Model) (i : Inv w m) where
       abbrev behind : List ℕ
       behind = passed (filled m.waiting bs)
 
-      answered-reads : reads (m.waiting ++ (take (fills m.waiting bs) bs ++ more)) ≡ onto (whole ∷ []) (reads (behind ++ more))
-      answered-reads = taken-reads ∙ reads_passed (filled m.waiting bs) more k f
+      answered_reads : reads (m.waiting ++ (take (fills m.waiting bs) bs ++ more)) ≡ onto (whole ∷ []) (reads (behind ++ more))
+      answered_reads = taken_reads ∙ reads_passed (filled m.waiting bs) more k f
 
-      answered-happens : Happens w (moment m.core (serves (front_parts (filled m.waiting bs) k)) (serving m (filled m.waiting bs) k))
-      answered-happens = record {
+      answered_happens : Happens w (moment m.core (serves (front_parts (filled m.waiting bs) k)) (serving m (filled m.waiting bs) k))
+      answered_happens = record {
         done = ap (λ (id : ℕ). served id (front_parts (filled m.waiting bs) k) m.core) i.device_id;
         sound = i.sound;
         lit = λ _. d;
         short = λ e. let z : ◌≡◌ {A = ℕ} 0 1 = cc in absurd (omega arith);
       }
 
-      step-answered : Stepped w m (record { device_id = m.device_id; meaning = m.meaning; core = (serving m (filled m.waiting bs) k).0; waiting = behind })
+      step_answered : Stepped w m (record { device_id = m.device_id; meaning = m.meaning; core = (serving m (filled m.waiting bs) k).0; waiting = behind })
           (serving m (filled m.waiting bs) k).1 (map Byte (take (fills m.waiting bs) bs)) 1 (first_served here) (behind_first here) here (frames_in (behind ++ more))
       unfolding count
-      step-answered =
-          let e : here ≡ whole ∷ frames_in (behind ++ more) = ap (λ (r : Read). r.0) answered-reads in
+      step_answered =
+          let e : here ≡ whole ∷ frames_in (behind ++ more) = ap (λ (r : Read). r.0) answered_reads in
           let n : Model = record { device_id = m.device_id; meaning = m.meaning; core = (serving m (filled m.waiting bs) k).0; waiting = behind } in
           let P : List (List ℕ) → Type 0 =
           λ fs. Stepped w m n (serving m (filled m.waiting bs) k).1 (map Byte (take (fills m.waiting bs) bs)) 1 (first_served fs) (behind_first fs) fs (frames_in (behind ++ more)) in
           subst P (sym e) (record {
-            inv = inv-after (serves (front_parts (filled m.waiting bs) k)) (serving m (filled m.waiting bs) k) behind answered-happens (settled_passed (filled m.waiting bs) k f);
+            inv = inv_after (serves (front_parts (filled m.waiting bs) k)) (serving m (filled m.waiting bs) k) behind answered_happens (settled_passed (filled m.waiting bs) k f);
             unserved = refl;
             passes = refl;
             many = omega arith;
             flows = λ t. flow_bytes (take (fills m.waiting bs) bs) m.waiting t
                 ∙ flow_reads t (m.waiting ++ take (fills m.waiting bs) bs) behind (whole ∷ []) (passed_reads m.waiting bs k f);
-            each = (answered-happens, tt);
+            each = (answered_happens, tt);
             linked = (refl, refl);
             wrote = append-nil (serving m (filled m.waiting bs) k).1;
             served = refl;
@@ -166,26 +166,26 @@ module _ (w : World) (m : Model) (i : Inv w m) where
 
   module _ (fs : List (List ℕ)) where
     module _ (d : powered m ≡ false) where
-      woke-happens : Happens w (moment m.core powers (woken m.core, wake_up))
-      woke-happens = record {
+      woke_happens : Happens w (moment m.core powers (woken m.core, wake_up))
+      woke_happens = record {
         done = refl;
         sound = i.sound;
         lit = λ e. absurd (true≢false e);
         short = λ e. let z : ◌≡◌ {A = ℕ} 0 1 = cc in absurd (omega arith);
       }
 
-      quiet-dark : is_whole m.waiting ≡ false
-      quiet-dark = ap is_whole (i.dark d)
+      quiet_dark : is_whole m.waiting ≡ false
+      quiet_dark = ap is_whole (i.dark d)
 
-      step-woke : Stepped w m (record { device_id = m.device_id; meaning = m.meaning; core = woken m.core; waiting = m.waiting }) wake_up (On ∷ []) 0 (Some powers) fs fs fs
+      step_woke : Stepped w m (record { device_id = m.device_id; meaning = m.meaning; core = woken m.core; waiting = m.waiting }) wake_up (On ∷ []) 0 (Some powers) fs fs fs
       unfolding count
-      step-woke = record {
-        inv = inv-after powers (woken m.core, wake_up) m.waiting woke-happens i.settled;
+      step_woke = record {
+        inv = inv_after powers (woken m.core, wake_up) m.waiting woke_happens i.settled;
         unserved = refl;
         passes = refl;
         many = omega arith;
-        flows = λ t. flow_on m.waiting t quiet-dark i.settled;
-        each = (woke-happens, tt);
+        flows = λ t. flow_on m.waiting t quiet_dark i.settled;
+        each = (woke_happens, tt);
         linked = (refl, refl);
         wrote = append-nil wake_up;
         served = refl;
@@ -195,23 +195,23 @@ module _ (w : World) (m : Model) (i : Inv w m) where
       abbrev beaten : Step
       beaten = tick m.device_id m.meaning m.core
 
-      beat-happens : Happens w (moment m.core ticks beaten)
-      beat-happens = record {
+      beat_happens : Happens w (moment m.core ticks beaten)
+      beat_happens = record {
         done = ap₂ (λ (id : ℕ) (f : Meaning). tick id f m.core) i.device_id i.meaning;
         sound = i.sound;
         lit = λ _. d;
         short = λ _. subst (λ (f : Meaning). ltb 2048 (length (flat_map packet_bytes (packets_at f m.core))) ≡ false) i.meaning s;
       }
 
-      step-beat : Stepped w m (record { device_id = m.device_id; meaning = m.meaning; core = beaten.0; waiting = m.waiting }) beaten.1 (Beat ∷ []) 0 (Some ticks) fs fs fs
+      step_beat : Stepped w m (record { device_id = m.device_id; meaning = m.meaning; core = beaten.0; waiting = m.waiting }) beaten.1 (Beat ∷ []) 0 (Some ticks) fs fs fs
       unfolding count
-      step-beat = record {
-        inv = inv-after ticks beaten m.waiting beat-happens i.settled;
+      step_beat = record {
+        inv = inv_after ticks beaten m.waiting beat_happens i.settled;
         unserved = refl;
         passes = refl;
         many = omega arith;
         flows = λ t. flow_beat m.waiting t q i.settled;
-        each = (beat-happens, tt);
+        each = (beat_happens, tt);
         linked = (refl, refl);
         wrote = append-nil beaten.1;
         served = refl;
@@ -221,11 +221,11 @@ module _ (w : World) (m : Model) (i : Inv w m) where
 pub stepped : (w : World) (m : Model) {k : Model} {o : List ℕ} {ev : List Event} {s : ℕ} {tk : List ℕ} {h : List (List ℕ) → Option Happening} {u : List (List ℕ) → List (List ℕ)}
     → Inv w m → Went m k o ev s tk h u → (more : List ℕ)
     → Stepped w m k o ev s (h (frames_in (m.waiting ++ (tk ++ more)))) (u (frames_in (m.waiting ++ (tk ++ more)))) (frames_in (m.waiting ++ (tk ++ more))) (frames_in (k.waiting ++ more))
-stepped w m i refused more = step-refused w m i (frames_in (m.waiting ++ more))
-stepped w m i (took bs d q) more = step-took w m i bs more d
-stepped w m i (answered bs k d f) more = step-answered w m i bs more k d f
-stepped w m i (woke d) more = step-woke w m i (frames_in (m.waiting ++ more)) d
-stepped w m i (beat d q s) more = step-beat w m i (frames_in (m.waiting ++ more)) d q s
+stepped w m i refused more = step_refused w m i (frames_in (m.waiting ++ more))
+stepped w m i (took bs d q) more = step_took w m i bs more d
+stepped w m i (answered bs k d f) more = step_answered w m i bs more k d f
+stepped w m i (woke d) more = step_woke w m i (frames_in (m.waiting ++ more)) d
+stepped w m i (beat d q s) more = step_beat w m i (frames_in (m.waiting ++ more)) d q s
 
 -- and what reading leaves stays
 pub left_stays : (m : Model) {k : Model} {o : List ℕ} {ev : List Event} {s : ℕ} {tk : List ℕ} {h : List (List ℕ) → Option Happening} {u : List (List ℕ) → List (List ℕ)}

@@ -10,7 +10,7 @@ use Rattle.session.specs.Counting.{one_if, is_power, is_request, is_reset, is_wa
 use Rattle.session.specs.Laws.{Linked, keeps}
 use Rattle.session.proofs.Happens.{Happens}
 use Rattle.session.proofs.Framing.{happens_frames}
-use Rattle.session.proofs.Keeping.{stored_settings, happens-left, happens-held, happens-keeps, happens-stays, happens-resets}
+use Rattle.session.proofs.Keeping.{stored_settings, happens_left, happens_held, happens_keeps, happens_stays, happens_resets}
 use Rattle.session.proofs.Runs.{wrote_in}
 
 -- ---- parts of a list
@@ -73,7 +73,7 @@ pub tale_cost : (w : World) (ms : List Moment) (c d : Core) → All (Happens w) 
 unfolding count
 tale_cost w [] c d a e = ap (λ (x : Core). x.store.left) e ∙ omega arith
 tale_cost w (m ∷ ms) c d (h, a) (b, l) =
-    let x = happens-left w m h in
+    let x = happens_left w m h in
     let y = tale_cost w ms m.after d a l in
     let z : m.before.store.left ≡ c.store.left = ap (λ (x : Core). x.store.left) b in
     omega arith
@@ -84,7 +84,7 @@ tale_held w [] c d a e = ap (λ (x : Core). x.store.held) (sym e)
 tale_held w (m ∷ ms) c d (h, a) (b, l) =
     tale_held w ms m.after d a l
     ∙ ap (λ (x : Option (List ℕ)). last_image x ms)
-    (happens-held w m h ∙ ap (λ (x : Core). cond (is_stored m) (Some (image_of m.after.settings)) x.store.held) b)
+    (happens_held w m h ∙ ap (λ (x : Core). cond (is_stored m) (Some (image_of m.after.settings)) x.store.held) b)
 
 -- ---- Reset restores what was stored
 
@@ -93,7 +93,7 @@ tale_stays : (w : World) (ms : List Moment) (c d : Core) → All (Happens w) ms 
     → stored_settings d ≡ stored_settings c
 tale_stays w [] c d a e n = ap stored_settings (sym e)
 tale_stays w (m ∷ ms) c d (h, a) (b, l) (f, n) =
-    tale_stays w ms m.after d a l n ∙ happens-stays w m h f ∙ ap stored_settings b
+    tale_stays w ms m.after d a l n ∙ happens_stays w m h f ∙ ap stored_settings b
 
 pub tale_restores : (w : World) (a b c : List Moment) (x r : Moment) (k d : Core) → All (Happens w) (a ++ (x ∷ (b ++ (r ∷ c))))
     → Linked k (a ++ (x ∷ (b ++ (r ∷ c)))) d → keeps x ≡ true → All (λ y. keeps y ≡ false) b → is_reset r ≡ true
@@ -104,10 +104,10 @@ tale_restores w a b c x r k d h l y n z =
     let hr = (all_behind (Happens w) b (r ∷ c) hb).0 in
     let lx = linked_parts a (x ∷ (b ++ (r ∷ c))) k d l in
     let lb = linked_parts b (r ∷ c) x.after d lx.2.1 in
-    happens-resets w r hr z
+    happens_resets w r hr z
     ∙ ap stored_settings lb.2.0
     ∙ tale_stays w b x.after lb.0 (all_before (Happens w) b (r ∷ c) hb) lb.1 n
-    ∙ happens-keeps w x hx.0 y
+    ∙ happens_keeps w x hx.0 y
 
 -- a list splits at the last moment that loads or stores, if there is one
 abbrev pub LastKept : List Moment → Type 0

@@ -67,9 +67,9 @@ acknowledges c d h a i xs b e = ap₂ (λ (x y : Bool). x && not y) (lt-ltb 0 (l
 
 module _ {w : World} {c : Core} {p : Parts} where
   -- without a reply, or with Error
-  told-quiet : (s : Step) (q : Bool) → acknowledged (moment_of c (serves p) s) ≡ false → (addressed p && not (wakes c p)) ≡ q
+  told_quiet : (s : Step) (q : Bool) → acknowledged (moment_of c (serves p) s) ≡ false → (addressed p && not (wakes c p)) ≡ q
       → Told w (moment_of c (serves p) s) (served_row q)
-  told-quiet s q e r = record {
+  told_quiet s q e r = record {
     request = r;
     reset = and_right _ _ e;
     wake_up_lem = and_right _ _ e;
@@ -78,15 +78,15 @@ module _ {w : World} {c : Core} {p : Parts} where
     stored = and_right _ _ (and_left _ _ e);
   }
 
-  told-error : (d : Core) (a : ℕ) (xs : List ℕ) → addressed p ≡ true → wakes c p ≡ false
+  told_error : (d : Core) (a : ℕ) (xs : List ℕ) → addressed p ≡ true → wakes c p ≡ false
       → Told w (moment_of c (serves p) (d, 0xFA ∷ a ∷ 0x42 ∷ xs)) (served_row true)
-  told-error d a xs h e =
-      told-quiet (d, 0xFA ∷ a ∷ 0x42 ∷ xs) true (acknowledges c d (serves p) a 0x42 xs true refl) (and_from _ _ h (not_from_false _ e))
+  told_error d a xs h e =
+      told_quiet (d, 0xFA ∷ a ∷ 0x42 ∷ xs) true (acknowledges c d (serves p) a 0x42 xs true refl) (and_from _ _ h (not_from_false _ e))
 
   -- with another reply
-  told-allowed : (d : Core) (a i : ℕ) (xs : List ℕ) (r m k t : Bool) → Allowed c p r m k → i ≡ (p.identifier + 1) % 256 → storing d.settings ≡ t
+  told_allowed : (d : Core) (a i : ℕ) (xs : List ℕ) (r m k t : Bool) → Allowed c p r m k → i ≡ (p.identifier + 1) % 256 → storing d.settings ≡ t
       → Told w (moment_of c (serves p) (d, 0xFA ∷ a ∷ i ∷ xs)) (done_row (r && true) ((m && true) || false) (k && t))
-  told-allowed d a i xs r m k t f n on =
+  told_allowed d a i xs r m k t f n on =
       let e = acknowledges c d (serves p) a i xs false (rw n f.signs.reply) in
       record {
         request = and_from _ _ f.here (not_from_false _ f.signs.asleep);
@@ -98,11 +98,11 @@ module _ {w : World} {c : Core} {p : Parts} where
       }
 
 module _ (w : World) (c : Core) where
-  told-tick : (s : Step) (o : Option State) (m n : Bool) → c.state ≡ o
+  told_tick : (s : Step) (o : Option State) (m n : Bool) → c.state ≡ o
       → (in_wake_up o && (thousandth c.counts && not (configures c.settings))) ≡ m
       → ltb 0 (length (packets_by w.meaning o c)) ≡ n → Told w (moment_of c ticks s) (tick_row m n)
   unfolding packets_at
-  told-tick s o m n e f g = record {
+  told_tick s o m n e f g = record {
     request = refl;
     reset = refl;
     wake_up_lem = refl;
@@ -111,20 +111,20 @@ module _ (w : World) (c : Core) where
     stored = refl;
   }
 
-  pub way-told : {h : Happening} {s : Step} (g : Way w c h s) → Told w (moment_of c h s) (row_of g)
+  pub way_told : {h : Happening} {s : Step} (g : Way w c h s) → Told w (moment_of c h s) (row_of g)
   unfolding woken packets_at
-  way-told powering = record { request = refl; reset = refl; wake_up_lem = refl; passage = refl; sample = refl; stored = refl }
-  way-told (silent e) = told-quiet _ false refl (and_left _ _ e)
-  way-told (waking e) = told-quiet _ false refl (and_right _ _ (not_from_true _ e))
-  way-told (refused xs h e _ _) = told-error _ _ _ h e
-  way-told (configuring f) = told-allowed _ _ _ _ false false false _ f refl refl
-  way-told (measured f) = told-allowed _ _ _ _ false true false _ f refl refl
-  way-told (resetting f) = told-allowed _ _ _ _ true false false _ f refl refl
-  way-told (asking q f) = told-allowed _ _ _ _ false false false _ f refl refl
-  way-told (saving ch s f _ on _) = told-allowed _ _ _ _ false false true true f refl on
-  way-told (changing ch s f _ off) = told-allowed _ _ _ _ false false true false f refl off
-  way-told (sleeping e t) = told-tick _ (Some WakeUp) false false e (and_left _ _ t) refl
-  way-told (pausing e t f) = told-tick _ (Some WakeUp) false false e (and_right _ _ (not_from_true _ f)) refl
-  way-told (passing e t f) = told-tick _ (Some WakeUp) true false e (and_from _ _ t (not_from_false _ f)) refl
-  way-told (idle e) = told-tick _ (Some Config) false false e refl refl
-  way-told (sampling e) = told-tick _ (Some Measurement) false _ e refl (ap (λ (o : Option State). ltb 0 (length (packets_by w.meaning o c))) (sym e))
+  way_told powering = record { request = refl; reset = refl; wake_up_lem = refl; passage = refl; sample = refl; stored = refl }
+  way_told (silent e) = told_quiet _ false refl (and_left _ _ e)
+  way_told (waking e) = told_quiet _ false refl (and_right _ _ (not_from_true _ e))
+  way_told (refused xs h e _ _) = told_error _ _ _ h e
+  way_told (configuring f) = told_allowed _ _ _ _ false false false _ f refl refl
+  way_told (measured f) = told_allowed _ _ _ _ false true false _ f refl refl
+  way_told (resetting f) = told_allowed _ _ _ _ true false false _ f refl refl
+  way_told (asking q f) = told_allowed _ _ _ _ false false false _ f refl refl
+  way_told (saving ch s f _ on _) = told_allowed _ _ _ _ false false true true f refl on
+  way_told (changing ch s f _ off) = told_allowed _ _ _ _ false false true false f refl off
+  way_told (sleeping e t) = told_tick _ (Some WakeUp) false false e (and_left _ _ t) refl
+  way_told (pausing e t f) = told_tick _ (Some WakeUp) false false e (and_right _ _ (not_from_true _ f)) refl
+  way_told (passing e t f) = told_tick _ (Some WakeUp) true false e (and_from _ _ t (not_from_false _ f)) refl
+  way_told (idle e) = told_tick _ (Some Config) false false e refl refl
+  way_told (sampling e) = told_tick _ (Some Measurement) false _ e refl (ap (λ (o : Option State). ltb 0 (length (packets_by w.meaning o c))) (sym e))

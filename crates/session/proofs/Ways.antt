@@ -77,9 +77,9 @@ module _ (w : World) (p : Parts) (c : Core) where
   abbrev Goes : Step → Type 0
   Goes = Way w c (serves p)
 
-  changed-way : (ch : Changing) (s : Values) → Allowed c p false false true → changed_of c.settings ch ≡ Some s → Goes (adopted p (shown ch s) s c)
+  changed_way : (ch : Changing) (s : Values) → Allowed c p false false true → changed_of c.settings ch ≡ Some s → Goes (adopted p (shown ch s) s c)
   unfolding adopted
-  changed-way ch s a e =
+  changed_way ch s a e =
       cond_both (storing s) _ _ Goes
       (λ on. cond_both (eqb c.store.left 0) _ _ Goes
       (λ _. refused (40 ∷ p.identifier ∷ be 4 0) a.here a.signs.asleep
@@ -87,47 +87,47 @@ module _ (w : World) (p : Parts) (c : Core) where
       (saving ch s a e on))
       (changing ch s a e)
 
-  changedBy-way : (ch : Changing) (o : Option Values) → Allowed c p false false true → changed_of c.settings ch ≡ o → Goes (changed_by p ch o c)
-  changedBy-way ch None a e = refused (wrong_value ch ∷ []) a.here a.signs.asleep (wrong_bytes ch) (omega arith)
-  changedBy-way ch (Some s) a e = changed-way ch s a e
+  changed_by_way : (ch : Changing) (o : Option Values) → Allowed c p false false true → changed_of c.settings ch ≡ o → Goes (changed_by p ch o c)
+  changed_by_way ch None a e = refused (wrong_value ch ∷ []) a.here a.signs.asleep (wrong_bytes ch) (omega arith)
+  changed_by_way ch (Some s) a e = changed_way ch s a e
 
-  performed-way : (d : Decision) → addressed p ≡ true → Facts c.state p.identifier p.content d → Goes (performed_by w.device_id p d c)
+  performed_way : (d : Decision) → addressed p ≡ true → Facts c.state p.identifier p.content d → Goes (performed_by w.device_id p d c)
   unfolding performed
-  performed-way (Err e) h f = refused (error_number e ∷ []) h f (error_bytes e) (omega arith)
-  performed-way (Ok Wake) h f = waking f
-  performed-way (Ok Configure) h f = configuring (record { here = h; signs = f })
-  performed-way (Ok Measure) h f = measured (record { here = h; signs = f })
-  performed-way (Ok Reset) h f = resetting (record { here = h; signs = f })
-  performed-way (Ok (Ask q)) h f = asking q (record { here = h; signs = f })
-  performed-way (Ok (Set ch)) h f = changedBy-way ch (changed_of c.settings ch) (record { here = h; signs = f }) refl
+  performed_way (Err e) h f = refused (error_number e ∷ []) h f (error_bytes e) (omega arith)
+  performed_way (Ok Wake) h f = waking f
+  performed_way (Ok Configure) h f = configuring (record { here = h; signs = f })
+  performed_way (Ok Measure) h f = measured (record { here = h; signs = f })
+  performed_way (Ok Reset) h f = resetting (record { here = h; signs = f })
+  performed_way (Ok (Ask q)) h f = asking q (record { here = h; signs = f })
+  performed_way (Ok (Set ch)) h f = changed_by_way ch (changed_of c.settings ch) (record { here = h; signs = f }) refl
 
-  answered-way : (o : Option State) → addressed p ≡ true → c.state ≡ o → is_some o ≡ true → Goes (answered w.device_id p o c)
-  answered-way None h e l = absurd (false≢true l)
-  answered-way (Some s) h e l =
+  answered_way : (o : Option State) → addressed p ≡ true → c.state ≡ o → is_some o ≡ true → Goes (answered w.device_id p o c)
+  answered_way None h e l = absurd (false≢true l)
+  answered_way (Some s) h e l =
       let d : Decision = decided s c.settings.product p.identifier p.content in
-      performed-way d h
+      performed_way d h
       (subst (λ (o : Option State). Facts o p.identifier p.content d) (sym e)
       (decided_facts s c.settings.product p.identifier p.content))
 
-  served-way : is_some c.state ≡ true → Goes (served w.device_id p c)
+  served_way : is_some c.state ≡ true → Goes (served w.device_id p c)
   unfolding served
-  served-way l = cond_both (addressed p) _ _ Goes (λ h. answered-way c.state h refl l) silent
+  served_way l = cond_both (addressed p) _ _ Goes (λ h. answered_way c.state h refl l) silent
 
 module _ (w : World) (c : Core) where
-  wake-way : c.state ≡ Some WakeUp → Way w c ticks (wake_tick w.device_id c)
+  wake_way : c.state ≡ Some WakeUp → Way w c ticks (wake_tick w.device_id c)
   unfolding wake_tick
-  wake-way e =
+  wake_way e =
       cond_both (thousandth c.counts) _ _ (Way w c ticks)
       (λ t. cond_both (configures c.settings) _ _ (Way w c ticks) (pausing e t) (passing e t)) (sleeping e)
 
-  tick-way : (o : Option State) → c.state ≡ o → is_some o ≡ true → Way w c ticks (tick_by w.device_id (packets_at w.meaning c) o c)
-  tick-way None e l = absurd (false≢true l)
-  tick-way (Some WakeUp) e l = wake-way e
-  tick-way (Some Config) e l = idle e
-  tick-way (Some Measurement) e l = sampling e
+  tick_way : (o : Option State) → c.state ≡ o → is_some o ≡ true → Way w c ticks (tick_by w.device_id (packets_at w.meaning c) o c)
+  tick_way None e l = absurd (false≢true l)
+  tick_way (Some WakeUp) e l = wake_way e
+  tick_way (Some Config) e l = idle e
+  tick_way (Some Measurement) e l = sampling e
 
-  pub does-way : (h : Happening) → (is_power h ≡ false → is_some c.state ≡ true) → Way w c h (does w h c)
+  pub does_way : (h : Happening) → (is_power h ≡ false → is_some c.state ≡ true) → Way w c h (does w h c)
   unfolding tick
-  does-way powers l = powering
-  does-way (serves p) l = served-way w p c (l refl)
-  does-way ticks l = tick-way c.state refl (l refl)
+  does_way powers l = powering
+  does_way (serves p) l = served_way w p c (l refl)
+  does_way ticks l = tick_way c.state refl (l refl)

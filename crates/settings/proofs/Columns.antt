@@ -23,18 +23,18 @@ unfolding places
 places_more i vs = rw add-one
 
 module _ (start : List ℕ) (at : ℕ) (vs : List ℕ) where
-  pub column-none : take (at + 2 * 0) start ≡ take at start ++ places 0 vs
+  pub column_none : take (at + 2 * 0) start ≡ take at start ++ places 0 vs
   unfolding places
-  column-none = simp (append-nil, add-zero)
+  column_none = simp (append-nil, add-zero)
 
-  pub column-more : (i : ℕ) (out last : List ℕ) → take (at + 2 * i) out ≡ take at start ++ places i vs
+  pub column_more : (i : ℕ) (out last : List ℕ) → take (at + 2 * i) out ≡ take at start ++ places i vs
       → (v : ℕ) → v ≡ get_or vs i 0
       → take (at + 2 * i + 2) last ≡ take (at + 2 * i) out ++ be 2 v
       → take (at + 2 * (i + 1)) last ≡ take at start ++ places (i + 1) vs
-  column-more i out last inv v e put =
+  column_more i out last inv v e put =
       let n : at + 2 * (i + 1) ≡ at + 2 * i + 2 = omega arith in
       rw (n, put, inv, e, append_assoc, places_more)
 
-  pub column-all : (i n : ℕ) (out : List ℕ) → take (at + 2 * i) out ≡ take at start ++ places i vs → i ≡ n
+  pub column_all : (i n : ℕ) (out : List ℕ) → take (at + 2 * i) out ≡ take at start ++ places i vs → i ≡ n
       → take (at + 2 * n) out ≡ take at start ++ places n vs
-  column-all i n out inv e = rw (← e) inv
+  column_all i n out inv e = rw (← e) inv

@@ -11,7 +11,7 @@ use Rattle.settings.specs.Image.{image_of, number_at, read_of, load_of}
 use Rattle.settings.specs.View.{checked_of}
 use Rattle.settings.proofs.Bounds.{fits}
 use Rattle.settings.proofs.Spelt.{count_read}
-use Rattle.settings.proofs.Stores.{length_image, load-some, load-none}
+use Rattle.settings.proofs.Stores.{length_image, load_some, load_none}
 
 -- what is checked is what was asked, and it is valid
 checked_some : (c d : Values) → Some d ≡ checked_of c → (d ≡ c) × (valid c ≡ true)
@@ -26,24 +26,24 @@ checked_none c e v = none_not_some c (e ∙ cond-true (valid c) (Some c) None v)
 
 module _ (p : Product) (xs : List ℕ) where
   pub wrong_size : (length xs ≡ 140 → ⊥) → None ≡ load_of p xs
-  wrong_size n = sym (load-none p xs (λ v e. n (sym (ap length e) ∙ length_image (read_of p xs))))
+  wrong_size n = sym (load_none p xs (λ v e. n (sym (ap length e) ∙ length_image (read_of p xs))))
 
   pub too_many : 32 < number_at xs 1 1 → None ≡ load_of p xs
-  too_many n = sym (load-none p xs (λ v e. let m = (fits (read_of p xs) v).few in omega (arith, count_read p xs)))
+  too_many n = sym (load_none p xs (λ v e. let m = (fits (read_of p xs) v).few in omega (arith, count_read p xs)))
 
   module _ (values : Values) (read : values ≡ read_of p xs) where
     pub not_valid : None ≡ checked_of values → None ≡ load_of p xs
-    not_valid n = sym (load-none p xs (λ v e. checked_none values n (ap valid read ∙ v)))
+    not_valid n = sym (load_none p xs (λ v e. checked_none values n (ap valid read ∙ v)))
 
     module _ (d : Values) (some : Some d ≡ checked_of values) (image : List ℕ) (is : image ≡ image_of d) where
       loaded : d ≡ read_of p xs
       loaded = (checked_some values d some).0 ∙ read
 
       pub not_same : false ≡ bytes_eq image xs → None ≡ load_of p xs
-      not_same n = sym (load-none p xs (λ v e. both_ways _ (sym n) ((bytes_eq-Decides image xs).1 (is ∙ ap image_of loaded ∙ e))))
+      not_same n = sym (load_none p xs (λ v e. both_ways _ (sym n) ((bytes_eq-Decides image xs).1 (is ∙ ap image_of loaded ∙ e))))
 
-      pub same-image : true ≡ bytes_eq image xs → Some d ≡ load_of p xs
-      same-image t =
+      pub same_image : true ≡ bytes_eq image xs → Some d ≡ load_of p xs
+      same_image t =
           ap Some loaded
-          ∙ sym (load-some p xs (ap valid (sym read) ∙ (checked_some values d some).1)
+          ∙ sym (load_some p xs (ap valid (sym read) ∙ (checked_some values d some).1)
           (ap image_of (sym loaded) ∙ sym is ∙ (bytes_eq-Decides image xs).0 (sym t)))

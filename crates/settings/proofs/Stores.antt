@@ -96,9 +96,9 @@ place_here pre at vs l (suc n) i h b post =
     (cases_eq i n))
 
 module _ (c : Values) (f : Fits c) where
-  entry-at : (i : ℕ) → i < length c.entries → entry_at (image_of c) i ≡ get_or c.entries i (entry 0 0)
+  entry_at_lem : (i : ℕ) → i < length c.entries → entry_at (image_of c) i ≡ get_or c.entries i (entry 0 0)
   unfolding image_of
-  entry-at i h =
+  entry_at_lem i h =
       let es = c.entries in
       let x = All-get_or Fit es i (entry 0 0) h f.each in
       let lt : i < 32 = omega (arith, f.few) in
@@ -114,23 +114,23 @@ module _ (c : Values) (f : Fits c) where
       ∙ place_here (fields_of c ++ ids) 76 (frequencies c) (length_front c) 32 i lt (omega (arith, x.1, hz)) [] ∙ hz in
       λ t. entry (at1 t) (at2 t)
 
-  entries-read : (n : ℕ) → n ≤ length c.entries → entries_at (image_of c) n ≡ take n c.entries
+  entries_read : (n : ℕ) → n ≤ length c.entries → entries_at (image_of c) n ≡ take n c.entries
   unfolding entries_at
-  entries-read zero h = refl
-  entries-read (suc n) h =
-      ap (λ es. es ++ (entry_at (image_of c) n ∷ [])) (entries-read n (omega arith))
-      ∙ ap (λ e. take n c.entries ++ (e ∷ [])) (entry-at n (omega arith))
+  entries_read zero h = refl
+  entries_read (suc n) h =
+      ap (λ es. es ++ (entry_at (image_of c) n ∷ [])) (entries_read n (omega arith))
+      ∙ ap (λ e. take n c.entries ++ (e ∷ [])) (entry_at_lem n (omega arith))
       ∙ sym (take_more c.entries n (entry 0 0) (omega arith))
       ∙ ap (λ k. take k c.entries) (add-one n)
 
   -- the fields compute to the bytes of their numbers
-  read-image : read_of c.product (image_of c) ≡ c
+  read_image : read_of c.product (image_of c) ≡ c
   unfolding read_of image_of fields_of
-  read-image =
+  read_image =
       let n : ℕ = length c.entries in
       let es : entries_at (image_of c) (number_at (image_of c) 1 1) ≡ c.entries =
       ap (entries_at (image_of c)) (number_back 1 n (omega (arith, f.few)))
-      ∙ entries-read n (omega arith) ∙ take_all n c.entries (omega arith) in
+      ∙ entries_read n (omega arith) ∙ take_all n c.entries (omega arith) in
       let b : number_at (image_of c) 2 1 ≡ c.baud = number_back 1 c.baud f.baud in
       let p : number_at (image_of c) 3 1 ≡ c.profile = number_back 1 c.profile f.profile in
       let m : number_at (image_of c) 4 2 ≡ c.error_mode = number_back 2 c.error_mode f.error_mode in
@@ -141,15 +141,15 @@ module _ (c : Values) (f : Fits c) where
 -- ---- what is loaded
 
 module _ (p : Product) (xs : List ℕ) where
-  pub load-some : valid (read_of p xs) ≡ true → image_of (read_of p xs) ≡ xs → load_of p xs ≡ Some (read_of p xs)
+  pub load_some : valid (read_of p xs) ≡ true → image_of (read_of p xs) ≡ xs → load_of p xs ≡ Some (read_of p xs)
   unfolding load_of
-  load-some v e =
+  load_some v e =
       cond-true (valid (read_of p xs) && bytes_eq (image_of (read_of p xs)) xs) (Some (read_of p xs)) None
       (and_from _ _ v ((bytes_eq-Decides (image_of (read_of p xs)) xs).1 e))
 
-  pub load-none : (valid (read_of p xs) ≡ true → image_of (read_of p xs) ≡ xs → ⊥) → load_of p xs ≡ None
+  pub load_none : (valid (read_of p xs) ≡ true → image_of (read_of p xs) ≡ xs → ⊥) → load_of p xs ≡ None
   unfolding load_of
-  load-none wrong =
+  load_none wrong =
       let d = read_of p xs in
       let t = valid d && bytes_eq (image_of d) xs in
       ⊎_elim
@@ -162,8 +162,8 @@ module _ (p : Product) (xs : List ℕ) where
 -- what is stored is loaded
 back : (p : Product) (c : Values) (xs : List ℕ) → ImageOf p c xs → load_of p xs ≡ Some c
 back p c xs s =
-    let r : read_of p xs ≡ c = ap (λ q. read_of q xs) (sym s.product) ∙ ap (read_of c.product) s.image ∙ read-image c (fits c s.valid) in
-    load-some p xs (ap valid r ∙ s.valid) (ap image_of r ∙ sym s.image) ∙ ap Some r
+    let r : read_of p xs ≡ c = ap (λ q. read_of q xs) (sym s.product) ∙ ap (read_of c.product) s.image ∙ read_image c (fits c s.valid) in
+    load_some p xs (ap valid r ∙ s.valid) (ap image_of r ∙ sym s.image) ∙ ap Some r
 
 -- what the bytes spell out, if valid and imaged so, is stored in them
 read_stored : (p : Product) (xs : List ℕ) → valid (read_of p xs) ≡ true → xs ≡ image_of (read_of p xs) → ImageOf p (read_of p xs) xs
@@ -192,5 +192,5 @@ stored_said = record {
   back = back;
   exact = exact;
   none = λ p xs n c s. some_not_none c (sym (back p c xs s) ∙ n);
-  is_none = λ p xs wrong. load-none p xs (λ v e. wrong (read_of p xs) (read_stored p xs v (sym e)));
+  is_none = λ p xs wrong. load_none p xs (λ v e. wrong (read_of p xs) (read_stored p xs v (sym e)));
 }

@@ -9,17 +9,17 @@ module _ (xs : List ℕ) (w : ℕ) (long : length xs ≡ image_size) (more : 0 <
   accepts : saves (length xs) w ≡ true
   accepts = and_from (eqb (length xs) image_size) (ltb 0 w) (eq-eqb (length xs) image_size long) (lt-ltb 0 w more)
 
-  pub accepted-answer : save_answer (length xs) w ≡ Ok tt
-  accepted-answer = rw (eq-eqb (length xs) image_size long, ne_eqb w 0 (λ e. omega arith)) refl
+  pub accepted_answer : save_answer (length xs) w ≡ Ok tt
+  accepted_answer = rw (eq-eqb (length xs) image_size long, ne_eqb w 0 (λ e. omega arith)) refl
 
-  pub accepted-held : (h : Option (List ℕ)) → held_after xs w h ≡ Some xs
-  accepted-held h = rw accepts refl
+  pub accepted_held : (h : Option (List ℕ)) → held_after xs w h ≡ Some xs
+  accepted_held h = rw accepts refl
 
-  pub accepted-left : left_after xs w ≡ w - 1
-  accepted-left = rw accepts refl
+  pub accepted_left : left_after xs w ≡ w - 1
+  accepted_left = rw accepts refl
 
-  pub accepted-memory : (f : List ℕ → List ℕ → List ℕ) (bs : List ℕ) → memory_after f xs w bs ≡ f xs bs
-  accepted-memory f bs = rw accepts refl
+  pub accepted_memory : (f : List ℕ → List ℕ → List ℕ) (bs : List ℕ) → memory_after f xs w bs ≡ f xs bs
+  accepted_memory f bs = rw accepts refl
 
 pub refuses_length : (xs : List ℕ) (w : ℕ) → (length xs ≡ image_size → ⊥) → saves (length xs) w ≡ false
 refuses_length xs w ne = and_left (eqb (length xs) image_size) (ltb 0 w) (ne_eqb (length xs) image_size ne)
@@ -32,14 +32,14 @@ none_answer xs w long e = rw (eq-eqb (length xs) image_size long, eq-eqb w 0 e) 
 
 -- a refused save leaves the meaning and the memory
 module _ (xs : List ℕ) (w : ℕ) (e : saves (length xs) w ≡ false) where
-  pub refused-held : (h : Option (List ℕ)) → held_after xs w h ≡ h
-  refused-held h = rw e refl
+  pub refused_held : (h : Option (List ℕ)) → held_after xs w h ≡ h
+  refused_held h = rw e refl
 
-  pub refused-left : left_after xs w ≡ w
-  refused-left = rw e refl
+  pub refused_left : left_after xs w ≡ w
+  refused_left = rw e refl
 
-  pub refused-memory : (f : List ℕ → List ℕ → List ℕ) (bs : List ℕ) → memory_after f xs w bs ≡ bs
-  refused-memory f bs = rw e refl
+  pub refused_memory : (f : List ℕ → List ℕ → List ℕ) (bs : List ℕ) → memory_after f xs w bs ≡ bs
+  refused_memory f bs = rw e refl
 
 -- a load into a buffer of the image size
 pub sized_answer : (b : List ℕ) (h : Option (List ℕ)) → length b ≡ image_size → load_answer (length b) h ≡ Ok (found h)

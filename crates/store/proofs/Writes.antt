@@ -8,26 +8,26 @@ use Rattle.store.specs.Slots.{slot_size, slots, mark_at, image_at, used, fenced,
 use Rattle.store.proofs.Runs.{used_run, used_only}
 
 module _ (bs : List ℕ) (k : ℕ) (xs : List ℕ) (room : slot_size * k + slot_size ≤ length bs) (long : length xs ≡ image_size) where
-  length-filled : length (filled bs k xs) ≡ length bs
-  length-filled = search (rules, places)
+  length_filled : length (filled bs k xs) ≡ length bs
+  length_filled = search (rules, places)
 
-  filled-below : (i : ℕ) → i < slot_size * k → get_or (filled bs k xs) i 0 ≡ get_or bs i 0
-  filled-below i h = grind (arith, places)
+  filled_below : (i : ℕ) → i < slot_size * k → get_or (filled bs k xs) i 0 ≡ get_or bs i 0
+  filled_below i h = grind (arith, places)
 
-  filled-mark : mark_at (filled bs k xs) k ≡ 0
-  filled-mark = grind (arith, places)
+  filled_mark : mark_at (filled bs k xs) k ≡ 0
+  filled_mark = grind (arith, places)
 
-  filled-above : (i d : ℕ) → slot_size * k + slot_size ≤ i → get_or (filled bs k xs) i d ≡ get_or bs i d
-  filled-above i d h = grind (arith, places)
+  filled_above : (i d : ℕ) → slot_size * k + slot_size ≤ i → get_or (filled bs k xs) i d ≡ get_or bs i d
+  filled_above i d h = grind (arith, places)
 
   filled_in : (j d : ℕ) → j < image_size → get_or (filled bs k xs) (slot_size * k + 1 + j) d ≡ get_or xs j d
   filled_in j d h = grind (arith, places)
 
-  filled-image : image_at (filled bs k xs) k ≡ xs
-  filled-image =
+  filled_image : image_at (filled bs k xs) k ≡ xs
+  filled_image =
       let start = slot_size * k + 1 in
       let l : length (image_at (filled bs k xs) k) ≡ length xs =
-      omega (arith, length-take image_size (drop start (filled bs k xs)), length-drop start (filled bs k xs), length-filled) in
+      omega (arith, length-take image_size (drop start (filled bs k xs)), length-drop start (filled bs k xs), length_filled) in
       same_lists _ _ l (λ j d h.
       let i : j < image_size = omega arith in
       get_or-take image_size (drop start (filled bs k xs)) j d i ∙ (get_or-drop start (filled bs k xs) j d ∙ filled_in j d i))
@@ -62,50 +62,50 @@ module _ (xs bs : List ℕ) (room : used bs < slots bs) (long : length xs ≡ im
   fits : slot_size * used bs + slot_size ≤ length fence
   fits = omega (arith, length_fenced bs (used bs + 1))
 
-  length-saved : length (saved xs bs) ≡ length bs
+  length_saved : length (saved xs bs) ≡ length bs
   unfolding saved
-  length-saved = length-filled fence (used bs) xs fits long ∙ length_fenced bs (used bs + 1)
+  length_saved = length_filled fence (used bs) xs fits long ∙ length_fenced bs (used bs + 1)
 
-  pub slots-saved : slots (saved xs bs) ≡ slots bs
-  slots-saved = ap (λ n. n / slot_size) length-saved
+  pub slots_saved : slots (saved xs bs) ≡ slots bs
+  slots_saved = ap (λ n. n / slot_size) length_saved
 
   -- the used slots stay used, the next is used too, and the fence ends the run
-  pub used-saved : used (saved xs bs) ≡ used bs + 1
+  pub used_saved : used (saved xs bs) ≡ used bs + 1
   unfolding saved
-  used-saved =
-      let e = slots-saved in
+  used_saved =
+      let e = slots_saved in
       sym (used_only (saved xs bs) (used bs + 1) (record {
         within = omega arith;
         marked = λ k h. ⊎_elim
             (λ l.
-            filled-below fence (used bs) xs fits long (slot_size * k) (omega arith)
+            filled_below fence (used bs) xs fits long (slot_size * k) (omega arith)
             ∙ (fenced_other bs (used bs + 1) (slot_size * k) 0 (λ m z. omega arith) ∙ (used_run bs).marked k l))
             (λ l.
             let q : used bs ≡ k = omega arith in
             let P : ℕ → Type 0 = λ n. mark_at (saved xs bs) n ≡ 0 in
-            subst P q (filled-mark fence (used bs) xs fits long))
+            subst P q (filled_mark fence (used bs) xs fits long))
             (cases_lt k (used bs));
         ends = λ h z. omega (
           arith,
           z,
-          filled-above fence (used bs) xs fits long (slot_size * (used bs + 1)) 0 (omega arith),
+          filled_above fence (used bs) xs fits long (slot_size * (used bs + 1)) 0 (omega arith),
           fenced_mark bs (used bs + 1) (omega arith),
         );
       }))
 
-  pub image-saved : image_at (saved xs bs) (used bs) ≡ xs
+  pub image_saved : image_at (saved xs bs) (used bs) ≡ xs
   unfolding saved
-  image-saved = filled-image fence (used bs) xs fits long
+  image_saved = filled_image fence (used bs) xs fits long
 
-  pub rest-saved : rest (saved xs bs) ≡ rest bs
+  pub rest_saved : rest (saved xs bs) ≡ rest bs
   unfolding saved
-  rest-saved =
-      let e = slots-saved in
+  rest_saved =
+      let e = slots_saved in
       let l : length (rest (saved xs bs)) ≡ length (rest bs) =
-      omega (arith, length-drop (slot_size * slots (saved xs bs)) (saved xs bs), length-drop (slot_size * slots bs) bs, length-saved) in
+      omega (arith, length-drop (slot_size * slots (saved xs bs)) (saved xs bs), length-drop (slot_size * slots bs) bs, length_saved) in
       same_lists _ _ l (λ j d h.
       get_or-drop (slot_size * slots (saved xs bs)) (saved xs bs) j d
       ∙ (ap (λ n. get_or (saved xs bs) (slot_size * n + j) d) e
-      ∙ (filled-above fence (used bs) xs fits long (slot_size * slots bs + j) d (omega arith)
+      ∙ (filled_above fence (used bs) xs fits long (slot_size * slots bs + j) d (omega arith)
       ∙ (fenced_other bs (used bs + 1) (slot_size * slots bs + j) d (λ m z. omega arith)
       ∙ sym (get_or-drop (slot_size * slots bs) bs j d)))))

@@ -26,5 +26,5 @@ module _ (before after : List ℕ) (from end d : ℕ)
         ap (take (end - (from + d))) is-after ∙ moved before (from + d) end within room
         ∙ sym (drop-drop d from (take end before)) ∙ ap (λ k. drop k xs) same
 
-    pub kept-front : (whole : Option ℕ) → front_by whole ≡ front_of (settled (take (end - from) (drop from before))) → is_front_by (front_of (take (end - (from + d)) after)) whole ≡ true
-    kept-front whole e = front_by_is _ whole (ap front_of (kept ∙ ap settled (sym (between_is before from end))) ∙ sym e)
+    pub kept_front : (whole : Option ℕ) → front_by whole ≡ front_of (settled (take (end - from) (drop from before))) → is_front_by (front_of (take (end - (from + d)) after)) whole ≡ true
+    kept_front whole e = front_by_is _ whole (ap front_of (kept ∙ ap settled (sym (between_is before from end))) ∙ sym e)

@@ -1,5 +1,5 @@
 -- What is handed out of a recording next: by its cases, and as the first of the pieces.
-use Rattle.std.proofs.Common.{◌≡◌, ℕ, ◌+◌, ◌-◌, ◌<◌, ◌≤◌, Bool, true, false, cond, eqb, ltb, ◌⊎◌, List, [], ◌∷◌, ◌++◌, map, length, take, drop, Some, None, Option, sym, refl, ap, ◌∙◌, subst, inl, inr, ⊎_elim, arith, Bor, MatchOption}
+use Rattle.std.proofs.Common.{◌≡◌, ℕ, ◌<◌, ◌≤◌, true, false, eqb, ltb, List, [], ◌∷◌, ◌++◌, map, length, take, drop, Some, None, Option, sym, refl, ap, ◌∙◌, subst, ⊎_elim, arith, Bor, MatchOption}
 use Rattle.std.specs.Option.{option_map}
 use Rattle.std.proofs.lemmas.List.{length-drop, nil_from_length}
 use Rattle.std.proofs.lemmas.Bool.{ltb-true, ltb-false, eqb-true, lt-ltb, le-ltb, eq-eqb, ne_eqb, cond-true, cond-false, cases_lt, cases_Bool, eqb-false}
@@ -16,27 +16,27 @@ use Rattle.stream.proofs.Settles.{dropped_within, dropped_wrong}
 -- ---- as the code finds it
 
 module _ (xs a b : List ℕ) where
-  pub next-dropped : (d : ℕ) → 0 < d → d ≡ dropped xs → a ≡ take d xs → b ≡ drop d xs → Some (map stray a, b) ≡ next_of xs
-  next-dropped d h e f g =
+  pub next_dropped : (d : ℕ) → 0 < d → d ≡ dropped xs → a ≡ take d xs → b ≡ drop d xs → Some (map stray a, b) ≡ next_of xs
+  next_dropped d h e f g =
       (λ i. Some (map stray (f i), g i)) ∙ ap (λ k. Some (map stray (take k xs), drop k xs)) e
       ∙ sym (cond-true (ltb 0 (dropped xs)) _ _ (lt-ltb 0 (dropped xs) (omega arith)))
 
   -- nothing is dropped
-  next-front : (d : ℕ) → d ≤ 0 → d ≡ dropped xs → (w : Front) → w ≡ front_of (settled xs) → next_by w xs ≡ next_of xs
-  next-front d h e w f =
+  next_front : (d : ℕ) → d ≤ 0 → d ≡ dropped xs → (w : Front) → w ≡ front_of (settled xs) → next_by w xs ≡ next_of xs
+  next_front d h e w f =
       let z : dropped xs ≡ 0 = omega arith in
       ap (λ v. next_by v xs) (f ∙ ap (λ k. front_of (drop k xs)) z)
       ∙ sym (cond-false (ltb 0 (dropped xs)) _ (next_by (front_of xs) xs) (le-ltb 0 (dropped xs) (omega arith)))
 
-  pub next-whole : (d n : ℕ) → d ≤ 0 → d ≡ dropped xs → Whole n ≡ front_of (settled xs) → a ≡ take n xs → b ≡ drop n xs → Some (frame a ∷ [], b) ≡ next_of xs
-  next-whole d n h e w f g = (λ i. Some (frame (f i) ∷ [], g i)) ∙ next-front d h e (Whole n) w
+  pub next_whole : (d n : ℕ) → d ≤ 0 → d ≡ dropped xs → Whole n ≡ front_of (settled xs) → a ≡ take n xs → b ≡ drop n xs → Some (frame a ∷ [], b) ≡ next_of xs
+  next_whole d n h e w f g = (λ i. Some (frame (f i) ∷ [], g i)) ∙ next_front d h e (Whole n) w
 
-  pub next-none : (d : ℕ) → d ≤ 0 → d ≡ dropped xs → Waits ≡ front_of (settled xs) → length xs ≡ 0 → None ≡ next_of xs
-  next-none d h e w l = sym (cond-true (eqb (length xs) 0) None _ (eq-eqb _ 0 l)) ∙ next-front d h e Waits w
+  pub next_none : (d : ℕ) → d ≤ 0 → d ≡ dropped xs → Waits ≡ front_of (settled xs) → length xs ≡ 0 → None ≡ next_of xs
+  next_none d h e w l = sym (cond-true (eqb (length xs) 0) None _ (eq-eqb _ 0 l)) ∙ next_front d h e Waits w
 
-  pub next-left : (d : ℕ) → d ≤ 0 → d ≡ dropped xs → Waits ≡ front_of (settled xs) → (length xs ≡ 0 → ⊥) → a ≡ xs → b ≡ [] → Some (left a ∷ [], b) ≡ next_of xs
-  next-left d h e w l f g =
-      (λ i. Some (left (f i) ∷ [], g i)) ∙ sym (cond-false (eqb (length xs) 0) None _ (ne_eqb _ 0 l)) ∙ next-front d h e Waits w
+  pub next_left : (d : ℕ) → d ≤ 0 → d ≡ dropped xs → Waits ≡ front_of (settled xs) → (length xs ≡ 0 → ⊥) → a ≡ xs → b ≡ [] → Some (left a ∷ [], b) ≡ next_of xs
+  next_left d h e w l f g =
+      (λ i. Some (left (f i) ∷ [], g i)) ∙ sym (cond-false (eqb (length xs) 0) None _ (ne_eqb _ 0 l)) ∙ next_front d h e Waits w
 
 -- ---- the first of the pieces
 

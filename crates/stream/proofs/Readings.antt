@@ -1,18 +1,17 @@
 -- Reading: its cases one by one, frames one behind the other, and reading in the words of the protocol.
-use Rattle.std.proofs.Common.{◌≡◌, ℕ, zero, suc, ◌+◌, ◌-◌, ◌<◌, ◌≤◌, true, false, cond, List, [], ◌∷◌, ◌++◌, map, length, get_or, take, drop, sym, refl, ap, ◌∙◌, subst, ⊎_elim, arith}
+use Rattle.std.proofs.Common.{◌≡◌, ℕ, zero, suc, ◌+◌, ◌-◌, ◌<◌, ◌≤◌, List, [], ◌∷◌, ◌++◌, map, length, take, drop, sym, refl, ap, ◌∙◌, subst, arith}
 use Rattle.std.specs.List.{flat_map}
 use Rattle.std.proofs.lemmas.List.{length-drop, take_at, drop_at, take-append-drop, append-nil}
 use Rattle.xbus.specs.declared.front.Front.{Front}
 use Rattle.xbus.specs.declared.front.Front.TheVariants.{Whole, Waits, Wrong}
 use Rattle.xbus.specs.Numbers.{Bytes}
 use Rattle.xbus.specs.Front.{front_of}
-use Rattle.xbus.specs.Frames.{Frame, encoded}
+use Rattle.xbus.specs.Frames.{Frame}
 use Rattle.stream.specs.Settling.{unless_wrong, dropped, settled}
-use Rattle.stream.specs.Reading.{Piece, frame, stray, left, pieces_by, read_from, read_of, Reads, ends, waits, takes, drops, piece_bytes, EachFrame, FramesAreRead, ReadingSaid}
+use Rattle.stream.specs.Reading.{Piece, frame, stray, left, pieces_by, read_from, read_of, Reads, ends, waits, takes, drops, piece_bytes, FramesAreRead, ReadingSaid}
 use Rattle.xbus.proofs.Bytes.{bytes_drop}
 use Rattle.xbus.proofs.Cases.{encoded_whole, front_said, begins_whole, starts_waits}
-use Rattle.xbus.proofs.Fronts.{waits_not_wrong, front_bounded}
-use Rattle.stream.proofs.Settles.{dropped_wrong, dropped_none}
+use Rattle.xbus.proofs.Fronts.{front_bounded}
 
 -- ---- case by case
 
@@ -89,21 +88,21 @@ module _ (P : List ℕ → Type 0)
     (waiting : (xs : List ℕ) → 0 < length xs → front_of xs ≡ Waits → P xs)
     (wrong : (x : ℕ) (xs : List ℕ) → front_of (x ∷ xs) ≡ Wrong → P xs → P (x ∷ xs))
   where
-    reading-upto : (k : ℕ) (xs : List ℕ) (w : Front) → length xs ≤ k → front_of xs ≡ w → P xs
-    reading-upto k [] w l e = none
-    reading-upto zero (x ∷ xs) w l e = absurd (omega arith)
-    reading-upto (suc k) (x ∷ xs) (Whole n) l e =
+    reading_upto : (k : ℕ) (xs : List ℕ) (w : Front) → length xs ≤ k → front_of xs ≡ w → P xs
+    reading_upto k [] w l e = none
+    reading_upto zero (x ∷ xs) w l e = absurd (omega arith)
+    reading_upto (suc k) (x ∷ xs) (Whole n) l e =
         let b = (front_bounded (x ∷ xs)).whole n e in
-        whole (x ∷ xs) n e (reading-upto k (drop n (x ∷ xs)) (front_of (drop n (x ∷ xs))) (omega (arith, length-drop n (x ∷ xs))) refl)
-    reading-upto (suc k) (x ∷ xs) Waits l e = waiting (x ∷ xs) (omega arith) e
-    reading-upto (suc k) (x ∷ xs) Wrong l e = wrong x xs e (reading-upto k xs (front_of xs) (omega arith) refl)
+        whole (x ∷ xs) n e (reading_upto k (drop n (x ∷ xs)) (front_of (drop n (x ∷ xs))) (omega (arith, length-drop n (x ∷ xs))) refl)
+    reading_upto (suc k) (x ∷ xs) Waits l e = waiting (x ∷ xs) (omega arith) e
+    reading_upto (suc k) (x ∷ xs) Wrong l e = wrong x xs e (reading_upto k xs (front_of xs) (omega arith) refl)
 
-    pub reading-by : (xs : List ℕ) → P xs
-    reading-by xs = reading-upto (length xs) xs (front_of xs) (omega arith) refl
+    pub reading_by : (xs : List ℕ) → P xs
+    reading_by xs = reading_upto (length xs) xs (front_of xs) (omega arith) refl
 
 reads : (xs : List ℕ) → Bytes xs → Reads xs (read_of xs)
 reads =
-    reading-by (λ xs. Bytes xs → Reads xs (read_of xs))
+    reading_by (λ xs. Bytes xs → Reads xs (read_of xs))
     (λ bs. subst (Reads []) (sym read_none) ends)
     (λ xs n e r bs.
     subst (Reads xs) (sym (read_whole xs n e)) (takes ((front_said xs bs).whole n e) (r (bytes_drop n xs bs))))
@@ -120,7 +119,7 @@ only_reading bs (drops {x = x} {xs = xs} neither r) =
 
 bytes_kept : (xs : List ℕ) → flat_map piece_bytes (read_of xs) ≡ xs
 bytes_kept =
-    reading-by (λ xs. flat_map piece_bytes (read_of xs) ≡ xs)
+    reading_by (λ xs. flat_map piece_bytes (read_of xs) ≡ xs)
     (ap (flat_map piece_bytes) read_none)
     (λ xs n e r. ap (flat_map piece_bytes) (read_whole xs n e) ∙ ap (λ l. take n xs ++ l) r ∙ take-append-drop n xs)
     (λ xs some e. ap (flat_map piece_bytes) (read_waits xs some e) ∙ append-nil xs)

@@ -1,5 +1,5 @@
 -- How many bytes are dropped: step by step, and in the words of the protocol.
-use Rattle.std.proofs.Common.{◌≡◌, ℕ, zero, suc, ◌+◌, ◌-◌, ◌<◌, ◌≤◌, true, false, List, [], ◌∷◌, ◌++◌, length, take, drop, Some, None, Option, sym, refl, ap, ◌∙◌, subst, add-zero, zero-add, arith}
+use Rattle.std.proofs.Common.{◌≡◌, ℕ, zero, suc, ◌+◌, ◌<◌, ◌≤◌, true, List, [], ◌∷◌, length, drop, Some, None, Option, sym, refl, ap, ◌∙◌, subst, zero-add, arith}
 use Rattle.std.proofs.lemmas.List.{drop-drop, length-drop}
 use Rattle.std.proofs.lemmas.Bool.{eqb-true, eq-eqb, false≢true}
 use Rattle.xbus.specs.declared.front.Front.{Front}
@@ -7,7 +7,7 @@ use Rattle.xbus.specs.declared.front.Front.TheVariants.{Whole, Waits, Wrong}
 use Rattle.xbus.specs.Numbers.{Bytes}
 use Rattle.xbus.specs.Front.{front_of}
 use Rattle.xbus.specs.Frames.{Neither, FrontSaid}
-use Rattle.stream.specs.Settling.{unless_wrong, dropped, settled, front_by, is_front_by, Settles}
+use Rattle.stream.specs.Settling.{unless_wrong, dropped, front_by, is_front_by, Settles}
 use Rattle.xbus.proofs.Cases.{front_said}
 use Rattle.xbus.proofs.Fronts.{waits_not_wrong, whole_not_wrong}
 
@@ -75,8 +75,8 @@ reached_all xs n r not = omega (arith, r.count, dropped_none (drop n xs) not)
 -- ---- in the words of the protocol
 
 module _ (x : ℕ) (xs : List ℕ) where
-  first-wrong : Settles xs (dropped xs) → Neither (x ∷ xs) → Settles (x ∷ xs) (1 + dropped xs)
-  first-wrong s n =
+  first_wrong : Settles xs (dropped xs) → Neither (x ∷ xs) → Settles (x ∷ xs) (1 + dropped xs)
+  first_wrong s n =
       let e : 1 + dropped xs ≡ suc (dropped xs) = omega arith in
       subst (Settles (x ∷ xs)) (sym e) (record { within = omega (arith, s.within); before = before; here = s.here })
     where
@@ -84,14 +84,14 @@ module _ (x : ℕ) (xs : List ℕ) where
       before zero l = n
       before (suc k) l = s.before k (omega arith)
 
-  first-rests : (Neither (x ∷ xs) → ⊥) → Settles (x ∷ xs) 0
-  first-rests n = record { within = omega arith; before = λ k l. absurd (omega arith); here = n }
+  first_rests : (Neither (x ∷ xs) → ⊥) → Settles (x ∷ xs) 0
+  first_rests n = record { within = omega arith; before = λ k l. absurd (omega arith); here = n }
 
 module _ (x : ℕ) (xs : List ℕ) (said : FrontSaid (x ∷ xs)) (behind : Settles xs (dropped xs)) where
-  settles-more : (w : Front) → front_of (x ∷ xs) ≡ w → Settles (x ∷ xs) (unless_wrong w 0 (1 + dropped xs))
-  settles-more (Whole n) e = first-rests x xs (λ no. whole_not_wrong n (sym e ∙ said.is_wrong no))
-  settles-more Waits e = first-rests x xs (λ no. waits_not_wrong (sym e ∙ said.is_wrong no))
-  settles-more Wrong e = first-wrong x xs behind (said.wrong e)
+  settles_more : (w : Front) → front_of (x ∷ xs) ≡ w → Settles (x ∷ xs) (unless_wrong w 0 (1 + dropped xs))
+  settles_more (Whole n) e = first_rests x xs (λ no. whole_not_wrong n (sym e ∙ said.is_wrong no))
+  settles_more Waits e = first_rests x xs (λ no. waits_not_wrong (sym e ∙ said.is_wrong no))
+  settles_more Wrong e = first_wrong x xs behind (said.wrong e)
 
 pub settles : (xs : List ℕ) → Bytes xs → Settles xs (dropped xs)
 settles [] bs = record {
@@ -99,4 +99,4 @@ settles [] bs = record {
   before = λ k l. absurd (omega arith);
   here = λ n. waits_not_wrong ((front_said [] bs).is_wrong n);
 }
-settles (x ∷ xs) bs = settles-more x xs (front_said (x ∷ xs) bs) (settles xs bs.1) (front_of (x ∷ xs)) refl
+settles (x ∷ xs) bs = settles_more x xs (front_said (x ∷ xs) bs) (settles xs bs.1) (front_of (x ∷ xs)) refl

@@ -7,7 +7,6 @@ use Rattle.xbus.specs.declared.front.Front.TheVariants.{Whole, Waits, Wrong}
 use Rattle.stream.specs.declared.reading.Piece.TheVariants as code
 use Rattle.stream.specs.declared.reading.Piece.{Piece as CodePiece}
 use Rattle.stream.specs.declared.reading.Pieces.{Pieces}
-use Rattle.xbus.specs.Numbers.{Bytes}
 use Rattle.xbus.specs.Front.{front_of}
 use Rattle.xbus.specs.Frames.{Frame, Begins, Starts, Neither}
 use Rattle.stream.specs.Settling.{dropped}

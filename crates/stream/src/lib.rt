@@ -1,4 +1,6 @@
 // Reading a stream of Xbus bytes: what is dropped, the bytes that wait, and whole recordings.
+#![tactic(auto)]
+
 mod buffer;
 mod reading;
 mod settling;

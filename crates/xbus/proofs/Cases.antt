@@ -227,7 +227,7 @@ waits_starts xs bs e =
 unfinished : (xs ys : List ℕ) (n : ℕ) (w : Front) → 0 < length ys → n ≡ length (xs ++ ys) → front_of (xs ++ ys) ≡ Whole n → front_of xs ≡ w → w ≡ Waits
 unfinished xs ys n (Whole k) some l e f =
     let stays = front_stays xs ys (λ z. whole_not_waits k (sym f ∙ z)) in
-    let k-is-n : k ≡ n = let p = sym f ∙ sym stays ∙ e in cc in
+    let k_is_n : k ≡ n = let p = sym f ∙ sym stays ∙ e in cc in
     let le = ((front_bounded xs).whole k f).2 in
     absurd (omega (arith, length-append xs ys))
 unfinished xs ys n Waits some l e f = refl

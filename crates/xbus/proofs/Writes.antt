@@ -53,12 +53,12 @@ header_long xs mid a i n h l e =
     let m : mid ≡ be 2 n = e ∙ ap (λ k. be k n) two in
     let t = le-ltb n 255 l in
     let s : length_bytes n ≡ 0xFF ∷ be 2 n = cond-false (ltb n 255) _ _ t in
-    let four-in : 4 ≤ length ys = omega (arith, ap length is) in
+    let four_in : 4 ≤ length ys = omega (arith, ap length is) in
     record {
       bytes =
-          take-put_mid 4 2 ys mid 6 (omega (arith, ap length m)) four-in
+          take-put_mid 4 2 ys mid 6 (omega (arith, ap length m)) four_in
           ∙ ap (λ l. take 4 l ++ mid) is ∙ ap (λ z. 0xFA ∷ a ∷ i ∷ 0xFF ∷ z) m ∙ ap (λ z. 0xFA ∷ a ∷ i ∷ z) (sym s);
-      rest = drop-put_mid 4 2 ys mid 6 (omega arith) four-in (ap length m) ∙ ap (drop 6) is ∙ drop-drop 2 4 xs;
+      rest = drop-put_mid 4 2 ys mid 6 (omega arith) four_in (ap length m) ∙ ap (drop 6) is ∙ drop-drop 2 4 xs;
       start = sym (cond-false (ltb n 255) 4 6 t);
       room = let f = cond-false (ltb n 255) (n + 5) (n + 7) t in omega arith;
     }

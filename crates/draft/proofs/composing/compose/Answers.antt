@@ -1,7 +1,7 @@
-use Rattle.std.proofs.Common.{◌≡◌, length, Ok, Err, sym, refl, ap, ◌∙◌, subst, rules}
+use Rattle.std.proofs.Common.{◌≡◌, length, Err, refl, ap, ◌∙◌, subst, rules}
 use Rattle.mtdata2.specs.Packets.{item, handed_out}
 use Rattle.draft.specs.Composed.{answered, judged}
-use Rattle.draft.proofs.Recomposes.{Progress, progress_none, progress_added, handed_asked, refused-at, closed_at}
+use Rattle.draft.proofs.Recomposes.{Progress, progress_none, progress_added, handed_asked, refused_at, closed_at}
 use Rattle.draft.proofs.composing.compose.Goals as goal
 
 pub loop-packet-init : goal.loop-packet-init
@@ -10,7 +10,7 @@ loop-packet-init c = (
   tt,
   refl,
   progress_none _ _ c.args.tray.now c.begin-draft.result _ (c.begin-draft.ensures.holds c.args.tray.now) refl
-      (ap (λ p. handed_out p.rest.now) c.into-iter-packet-iterator.ensures.into-iter-gives ∙ c.packets-packet-items.ensures),
+      (ap (λ p. handed_out p.rest.now) c.into_iter-packet-iterator.ensures.into_iter_gives ∙ c.packets-packet-items.ensures),
 )
 
 pub loop-packet-preserved : goal.loop-packet-preserved
@@ -28,12 +28,12 @@ loop-packet-preserved c =
       tt,
       tt,
       c.add.ensures.lends ∙ c.loop-packet.invariant.2,
-      progress_added all m t c.loop-packet.tray c.add.new.tray d c.add.new.self i left content c.identifier.result c.in-ok-add.field-0
-          p is c.in-ok-add.ensures.does c.add.ensures.old c.in-ok-add.ensures.says,
+      progress_added all m t c.loop-packet.tray c.add.new.tray d c.add.new.self i left content c.identifier.result c.in_ok-add.field-0
+          p is c.in_ok-add.ensures.does c.add.ensures.old c.in_ok-add.ensures.says,
     )
 
-pub returns-in-err-add : goal.returns-in-err-add
-returns-in-err-add c input msg =
+pub returns-in_err-add : goal.returns-in_err-add
+returns-in_err-add c input msg =
     let all = handed_out c.args.message.now.content.now in
     let m = c.begin-draft.result.lot.start in
     let t = c.args.tray.now in
@@ -42,13 +42,13 @@ returns-in-err-add c input msg =
     let left = handed_out c.next.new.self.rest.now in
     let content = c.content-content.result.now in
     let steps = c.in-Some.ensures.steps in
-    let e = c.in-err-add.field-0.0 in
+    let e = c.in_err-add.field-0.0 in
     let p = subst (Progress all m t c.loop-packet.tray d) steps c.loop-packet.invariant.3 in
     let says : Err e ≡ answered (judged (length content) i.identifier 0 (length content) d.lot.start d.lot.size (length c.loop-packet.tray)) =
-    c.in-err-add.ensures.says
+    c.in_err-add.ensures.says
     ∙ ap (λ k. answered (judged (length content) k 0 (length content) d.lot.start d.lot.size (length c.loop-packet.tray))) c.identifier.ensures in
-    refused-at input all m c.args.mark.now t c.loop-packet.tray d msg c.begin-draft.ensures.old
-    c.add.new.tray i left content e c.from-residual.result _ p c.content-content.ensures says (search rules) (search rules)
+    refused_at input all m c.args.mark.now t c.loop-packet.tray d msg c.begin-draft.ensures.old
+    c.add.new.tray i left content e c.from_residual.result _ p c.content-content.ensures says (search rules) (search rules)
 
 pub returns : goal.returns
 returns c input msg =

@@ -1,13 +1,13 @@
-use Rattle.std.proofs.Common.{refl, arith}
-use Rattle.mtdata2.proofs.Frames.{body-unsealed, body-sealed}
+use Rattle.std.proofs.Common.{refl}
+use Rattle.mtdata2.proofs.Frames.{body_unsealed, body_sealed}
 use Rattle.mtdata2.proofs.frame.read_body.Goals as goal
 
 pub returns-then-sum-ne0 : goal.returns-then-sum-ne0
 returns-then-sum-ne0 c =
-    body-unsealed c.args.address c.args.identifier c.args.start c.args.size c.args.input.now c.sum.result
+    body_unsealed c.args.address c.args.identifier c.args.start c.args.size c.args.input.now c.sum.result
     c.if-input-start.false c.sum.ensures.value c.if-sum-ne0.true
 
 pub returns : goal.returns
 returns c =
-    body-sealed c.args.address c.args.identifier c.args.start c.args.size c.args.input.now c.sum.result
+    body_sealed c.args.address c.args.identifier c.args.start c.args.size c.args.input.now c.sum.result
     c.if-input-start.false c.sum.ensures.value _ c.if-sum-ne0.false refl

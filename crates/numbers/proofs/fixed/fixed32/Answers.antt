@@ -11,7 +11,7 @@ pub returns : goal.returns
 unfolding code_of
 returns c =
     let h : c.clamp-held.result ≡ saturate_to_bits 31 (steps c.args.value) = search rules in
-    let f : SFits w64 c.rem-euclid.result = search rules in
+    let f : SFits w64 c.rem_euclid.result = search rules in
     let g : SFits w64 c.clamp-held.result = search rules in
-    ap nat_abs (to_z-of_z w64 _ f ∙ c.rem-euclid.ensures.value ∙ ap (λ z. int_rem_euclid z (pos 4294967296)) (to_z-of_z w64 _ g ∙ h))
+    ap nat_abs (to_z-of_z w64 _ f ∙ c.rem_euclid.ensures.value ∙ ap (λ z. int_rem_euclid z (pos 4294967296)) (to_z-of_z w64 _ g ∙ h))
     ∙ twos_is 4 (saturate_to_bits 31 (steps c.args.value))

@@ -9,6 +9,6 @@ use Rattle.numbers.proofs.fixed.fixed48.Goals as goal
 pub returns : goal.returns
 unfolding code_of
 returns c =
-    let f : SFits w64 c.rem-euclid.result = search rules in
-    ap nat_abs (to_z-of_z w64 _ f ∙ c.rem-euclid.ensures.value ∙ ap (λ z. int_rem_euclid z (pos 281474976710656)) (to_z-of_z w64 _ c.ranges.value))
+    let f : SFits w64 c.rem_euclid.result = search rules in
+    ap nat_abs (to_z-of_z w64 _ f ∙ c.rem_euclid.ensures.value ∙ ap (λ z. int_rem_euclid z (pos 281474976710656)) (to_z-of_z w64 _ c.ranges.value))
     ∙ twos_is 6 c.args.value

@@ -6,8 +6,8 @@ use Rattle.numbers.specs.Encoding.{rounded, code_of}
 use Rattle.numbers.proofs.Quotients.{rounded_number}
 use Rattle.numbers.proofs.floats.double.Goals as goal
 
-pub float-to-bits-result : goal.float-to-bits-result
-float-to-bits-result c = rw c.scaled.ensures (rounded_number binary64 _)
+pub float_to_bits-result : goal.float_to_bits-result
+float_to_bits-result c = rw c.scaled.ensures (rounded_number binary64 _)
 
 pub returns : goal.returns
 unfolding code_of

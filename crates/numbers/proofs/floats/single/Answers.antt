@@ -10,21 +10,21 @@ use Rattle.numbers.proofs.Quotients.{rounded_number, narrowed_is}
 use Rattle.numbers.proofs.floats.single.Goals as goal
 
 -- what is narrowed is the nearest single
-nearest : (c : goal.After-nearest-f64-to-f32) → c.nearest-f64-to-f32.result ≡ rounded binary32 c.args.value
+nearest : (c : goal.After-nearest_f64_to_f32) → c.nearest_f64_to_f32.result ≡ rounded binary32 c.args.value
 nearest c =
-    c.nearest-f64-to-f32.ensures ∙ ap (round_to_format binary32) c.scaled.ensures
+    c.nearest_f64_to_f32.ensures ∙ ap (round_to_format binary32) c.scaled.ensures
     ∙ ap (λ (v : ℤ). round_to_format binary32 (rounded binary64 v)) (to_z-of_z w64 c.args.value c.ranges.value)
     ∙ narrowed_is c.args.value c.requires
 
-pub nearest-f64-to-f32-requires : goal.nearest-f64-to-f32-requires
-nearest-f64-to-f32-requires c = rw c.scaled.ensures (rounded_number binary64 _)
+pub nearest_f64_to_f32-requires : goal.nearest_f64_to_f32-requires
+nearest_f64_to_f32-requires c = rw c.scaled.ensures (rounded_number binary64 _)
 
-pub float-to-bits-result : goal.float-to-bits-result
-float-to-bits-result c = rw (nearest c) (rounded_number binary32 c.args.value)
+pub float_to_bits-result : goal.float_to_bits-result
+float_to_bits-result c = rw (nearest c) (rounded_number binary32 c.args.value)
 
 pub returns : goal.returns
 unfolding code_of
 returns c = ap (to_bits binary32) (nearest c)
 
-pub overflow-cast-result : goal.overflow-cast-result
-overflow-cast-result c = omega (arith, returns c, code_lt Single c.args.value)
+pub overflow_cast-result : goal.overflow_cast-result
+overflow_cast-result c = omega (arith, returns c, code_lt Single c.args.value)

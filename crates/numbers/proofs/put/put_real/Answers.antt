@@ -15,10 +15,10 @@ pub returns : goal.returns
 returns c = record {
   answer = search rules;
   bytes =
-      put_front c.args.out.now c.put-number.new.out c.args.precision c.args.value c.width-width.result c.code.result
+      put_front c.args.out.now c.put_number.new.out c.args.precision c.args.value c.width-width.result c.code.result
       c.width-width.ensures
       (c.code.ensures ∙ ap (code_of c.args.precision) (to_z-of_z w64 c.args.value c.ranges.value))
-      (omega arith) c.put-number.ensures;
+      (omega arith) c.put_number.ensures;
   size = search rules;
   meaning = meanings;
 }

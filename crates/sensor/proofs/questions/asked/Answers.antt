@@ -9,5 +9,5 @@ unfolding asked_of
 returns c =
     let id = c.args.channel in
     let k = c.args.index in
-    let e = c.kind-at.ensures ∙ ap (kind_at k) c.measured.ensures in
+    let e = c.kind_at.ensures ∙ ap (kind_at k) c.measured.ensures in
     record { is = e; exact = asked_exactly id k _ e; few = asked_few id k _ e }

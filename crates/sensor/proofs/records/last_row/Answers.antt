@@ -1,5 +1,5 @@
 -- One step of the loop, and its end.
-use Rattle.std.proofs.Common.{◌≡◌, [], get_or, None, Option, sym, ap, ◌∙◌}
+use Rattle.std.proofs.Common.{[], get_or, None, Option, sym, ap, ◌∙◌}
 use Rattle.std.proofs.lemmas.List.{take_all}
 use Rattle.std.proofs.lemmas.List.Sums.{fold_more}
 use Rattle.sensor.specs.declared.records.Row.{Row}

@@ -1,9 +1,9 @@
 -- A refused save leaves the memory, and an accepted one writes the fence and the next slot.
 use Rattle.std.proofs.Common.{◌≡◌, ◌<◌, sym, refl, ap, ◌∙◌, arith, rules}
 use Rattle.store.specs.Slots.{used, slots, held_in, left_in, saved, rest}
-use Rattle.store.proofs.Meanings.{accepted-answer, refuses_length, refuses_none, none_answer, refused-held, refused-left, refused-memory}
-use Rattle.store.proofs.Calls.{saved-held, saved-left, saved-bytes, saved_by_steps}
-use Rattle.store.proofs.Writes.{rest-saved}
+use Rattle.store.proofs.Meanings.{accepted_answer, refuses_length, refuses_none, none_answer, refused_held, refused_left, refused_memory}
+use Rattle.store.proofs.Calls.{saved_held, saved_left, saved_bytes, saved_by_steps}
+use Rattle.store.proofs.Writes.{rest_saved}
 use Rattle.store.proofs.slots.save_to.Goals as goal
 
 pub returns-then-image-ne-IMAGE : goal.returns-then-image-ne-IMAGE
@@ -13,9 +13,9 @@ returns-then-image-ne-IMAGE c =
     let e = refuses_length xs (left_in bs) c.if-image-ne-IMAGE.true in
     record {
       answer = search rules;
-      held = sym (refused-held xs (left_in bs) e (held_in bs));
-      left = sym (refused-left xs (left_in bs) e);
-      bytes = sym (refused-memory xs (left_in bs) e saved bs);
+      held = sym (refused_held xs (left_in bs) e (held_in bs));
+      left = sym (refused_left xs (left_in bs) e);
+      bytes = sym (refused_memory xs (left_in bs) e saved bs);
       rest = refl;
       meant = c.used_slots-used.ensures.meant;
     }
@@ -28,9 +28,9 @@ returns-then-used-bytes c =
     let e = refuses_none xs (left_in bs) none in
     record {
       answer = sym (none_answer xs (left_in bs) c.if-image-ne-IMAGE.false none);
-      held = sym (refused-held xs (left_in bs) e (held_in bs));
-      left = sym (refused-left xs (left_in bs) e);
-      bytes = sym (refused-memory xs (left_in bs) e saved bs);
+      held = sym (refused_held xs (left_in bs) e (held_in bs));
+      left = sym (refused_left xs (left_in bs) e);
+      bytes = sym (refused_memory xs (left_in bs) e saved bs);
       rest = refl;
       meant = c.used_slots-used.ensures.meant;
     }
@@ -45,10 +45,10 @@ returns c =
     saved_by_steps xs bs c.fence.new.bytes c.fill.new.bytes c.used_slots-used.result
     c.used_slots-used.ensures.value c.fence.ensures c.fill.ensures in
     record {
-      answer = sym (accepted-answer xs (left_in bs) long (omega arith));
-      held = ap held_in s ∙ saved-held xs bs room long;
-      left = ap left_in s ∙ saved-left xs bs room long;
-      bytes = s ∙ saved-bytes xs bs room long;
-      rest = ap rest s ∙ rest-saved xs bs room long;
+      answer = sym (accepted_answer xs (left_in bs) long (omega arith));
+      held = ap held_in s ∙ saved_held xs bs room long;
+      left = ap left_in s ∙ saved_left xs bs room long;
+      bytes = s ∙ saved_bytes xs bs room long;
+      rest = ap rest s ∙ rest_saved xs bs room long;
       meant = c.used_slots-used.ensures.meant;
     }

@@ -7,8 +7,8 @@ pub returns : goal.returns
 returns c =
     let xs = c.args.bytes.now in
     record {
-      value = c.first-piece.ensures;
-      hands = hands c.first-piece.result xs c.first-piece.ensures;
-      said = reading_said xs (bytes_all xs (λ k h. (c.type-inv.bytes k).fits));
+      value = c.first_piece.ensures;
+      hands = hands c.first_piece.result xs c.first_piece.ensures;
+      said = reading_said xs (bytes_all xs (λ k h. (c.type_inv.bytes k).fits));
       frames = frames_are_read;
     }

@@ -1,7 +1,6 @@
-use Rattle.std.proofs.Common.{◌≡◌, ℕ, List, length, drop, sym, ap, ◌∙◌, arith}
+use Rattle.std.proofs.Common.{◌≡◌, drop, sym, ap, ◌∙◌, arith}
 use Rattle.std.proofs.lemmas.List.{take_rest}
-use Rattle.xbus.specs.declared.front.Front.{Front}
-use Rattle.xbus.specs.declared.front.Front.TheVariants.{Whole, Waits, Wrong}
+use Rattle.xbus.specs.declared.front.Front.TheVariants.{Whole, Waits}
 use Rattle.xbus.specs.Front.{front_of}
 use Rattle.xbus.proofs.Bytes.{bytes_all}
 use Rattle.xbus.proofs.Fronts.{waits_not_wrong, whole_not_wrong}
@@ -21,7 +20,7 @@ returns-in-Whole c =
       dropped = d;
       whole = e ∙ ap (λ k. front_of (drop k xs)) d;
       within = c.loop-size.invariant.within;
-      settles = settles xs (bytes_all xs (λ k h. (c.type-inv.bytes k).fits));
+      settles = settles xs (bytes_all xs (λ k h. (c.type_inv.bytes k).fits));
     }
 
 pub returns-in-Waits : goal.returns-in-Waits
@@ -34,7 +33,7 @@ returns-in-Waits c =
       dropped = d;
       whole = e ∙ ap (λ k. front_of (drop k xs)) d;
       within = c.loop-size.invariant.within;
-      settles = settles xs (bytes_all xs (λ k h. (c.type-inv.bytes k).fits));
+      settles = settles xs (bytes_all xs (λ k h. (c.type_inv.bytes k).fits));
     }
 
 pub loop-size-smaller : goal.loop-size-smaller

@@ -1,19 +1,19 @@
-use Rattle.std.proofs.Common.{◌≡◌, ◌+◌, ◌≤◌, length, sym, refl, ap, ◌∙◌, subst, arith, rules}
+use Rattle.std.proofs.Common.{◌≡◌, ◌+◌, ◌≤◌, length, sym, refl, ap, ◌∙◌, subst, rules}
 use Rattle.xbus.specs.Writing.{frame_size}
 use Rattle.xbus.proofs.Bytes.{bytes_all}
 use Rattle.draft.specs.Composed.{asked, grown}
 use Rattle.draft.proofs.Holds.{added}
-use Rattle.draft.proofs.Judges.{Accepted, accepted, part_length, asked-well-formed, laid-is, extends}
+use Rattle.draft.proofs.Judges.{accepted, part_length, asked_well_formed, laid_is, extends}
 use Rattle.draft.proofs.draft.Draft.add.Goals as goal
 
-pub extend-frame-requires : goal.extend-frame-requires
-extend-frame-requires c =
+pub extend_frame-requires : goal.extend_frame-requires
+extend_frame-requires c =
     let s = c.args.source.now in
     let t = c.args.tray.now in
     let d = c.args.self.now in
     let p = c.args.packet in
-    let a = accepted (length s) p.identifier p.place p.size d.lot.start d.lot.size (length t) c.in-ok-grown.grown c.in-ok-grown.ensures in
-    extends s p.identifier p.place p.size d.lot.start d.lot.size (length t) c.in-ok-grown.grown a t c.frame-size.result refl c.frame-size.ensures
+    let a = accepted (length s) p.identifier p.place p.size d.lot.start d.lot.size (length t) c.in_ok-grown.grown c.in_ok-grown.ensures in
+    extends s p.identifier p.place p.size d.lot.start d.lot.size (length t) c.in_ok-grown.grown a t c.frame_size.result refl c.frame_size.ensures
 
 pub returns : goal.returns
 returns c =
@@ -21,18 +21,18 @@ returns c =
     let t = c.args.tray.now in
     let d = c.args.self.now in
     let p = c.args.packet in
-    let g = c.in-ok-grown.grown in
-    let a = accepted (length s) p.identifier p.place p.size d.lot.start d.lot.size (length t) g c.in-ok-grown.ensures in
+    let g = c.in_ok-grown.grown in
+    let a = accepted (length s) p.identifier p.place p.size d.lot.start d.lot.size (length t) g c.in_ok-grown.ensures in
     let i = asked s p.identifier p.place p.size in
     let l = part_length s p.identifier p.place p.size d.lot.start d.lot.size (length t) g a in
     let gi : g ≡ grown d.lot.size (length i.bytes) = a.is ∙ ap (grown d.lot.size) (sym l) in
-    let tray_is = laid-is s p.identifier p.place p.size d.lot.start d.lot.size (length t) g a t c.extend-frame.new.frame c.frame-size.result refl c.frame-size.ensures c.extend-frame.ensures in
-    let well = asked-well-formed s p.identifier p.place p.size d.lot.start d.lot.size (length t) g a (search rules) (bytes_all s (λ k h. (c.type-inv.source k).fits)) in
+    let tray_is = laid_is s p.identifier p.place p.size d.lot.start d.lot.size (length t) g a t c.extend_frame.new.frame c.frame_size.result refl c.frame_size.ensures c.extend_frame.ensures in
+    let well = asked_well_formed s p.identifier p.place p.size d.lot.start d.lot.size (length t) g a (search rules) (bytes_all s (λ k h. (c.type_inv.source k).fits)) in
     record {
       says = search rules;
       lends = search rules;
       old = search rules;
       does =
-          added t _ d _ i well refl gi (ap (λ k. d.lot.start + k) (c.frame-size.ensures ∙ ap frame_size gi))
+          added t _ d _ i well refl gi (ap (λ k. d.lot.start + k) (c.frame_size.ensures ∙ ap frame_size gi))
           (subst (λ k. d.lot.start + frame_size k ≤ length t) gi a.fits) (subst (λ k. k ≤ 2048) gi a.short) tray_is;
     }

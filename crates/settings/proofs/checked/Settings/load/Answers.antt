@@ -1,7 +1,7 @@
 use Rattle.std.proofs.Common.{arith}
 use Rattle.settings.specs.Values.{recorded}
 use Rattle.settings.specs.View.{values_of}
-use Rattle.settings.proofs.Loads.{wrong_size, too_many, not_valid, not_same, same-image}
+use Rattle.settings.proofs.Loads.{wrong_size, too_many, not_valid, not_same, same_image}
 use Rattle.settings.proofs.Stores.{stored_said}
 use Rattle.settings.proofs.checked.Settings.load.Goals as goal
 
@@ -39,7 +39,7 @@ returns-then-not-same c = record {
 pub returns : goal.returns
 returns c = record {
   is =
-      same-image c.args.product c.args.bytes.now (recorded c.args.product c.read.result) (c.read.ensures c.args.product)
+      same_image c.args.product c.args.bytes.now (recorded c.args.product c.read.result) (c.read.ensures c.args.product)
       (values_of c.in-ok-settings.settings) c.in-ok-settings.ensures.is c.image.result
       c.image.ensures.is c.if-not-same.ensures;
   said = stored_said;
