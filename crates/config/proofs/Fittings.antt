@@ -1,6 +1,6 @@
 -- The outputs that bytes ask for, in words: exactly those that are computed.
 use Rattle.std.proofs.Common.{◌≡◌, ℕ, zero, suc, ◌+◌, ◌*◌, ◌/◌, ◌<◌, ◌≤◌, true, false, ◌⊎◌, List, [], ◌∷◌, ◌++◌, map, length, Some, None, Decides, Option, sym, refl, ap, ◌∙◌, subst, inl, inr, ⊎_elim, arith}
-use Rattle.std.specs.List.{AllByRecursion as All}
+use Rattle.std.specs.List.{AllByRecursion}
 use Rattle.std.proofs.lemmas.Slice.Eq.{bytes_eq-Decides}
 use Rattle.std.proofs.lemmas.Bool.{both_ways, cond_both, cases_Bool, cases_eq}
 use Rattle.mti.specs.declared.product.Product.{Product}
@@ -69,7 +69,7 @@ fitting_used p i g f w h =
     used_known i g o k ∙ ap (entry i) (sym (divisor_said.only o.channel.max_hz g f (some_hz o k) (h o k)))
 
 -- the entries of bytes
-spelt_used : (p : Product) (n : ℕ) (xs : List ℕ) → length xs ≡ 4 * n → All (Offered p) (map used (entries_in xs))
+spelt_used : (p : Product) (n : ℕ) (xs : List ℕ) → length xs ≡ 4 * n → AllByRecursion (Offered p) (map used (entries_in xs))
     → Spelt xs (map used (entries_in xs)) × (length (map used (entries_in xs)) ≡ n)
 spelt_used p n [] e w = (none, omega arith)
 spelt_used p n (a ∷ []) e w = absurd (omega arith)
@@ -83,7 +83,7 @@ spelt_used p (suc n) (a ∷ b ∷ c ∷ d ∷ xs) e w =
       ap suc rest.1,
     )
 
-used_spelt : (p : Product) {xs : List ℕ} {es : List Entry} → Spelt xs es → All (Offered p) es
+used_spelt : (p : Product) {xs : List ℕ} {es : List Entry} → Spelt xs es → AllByRecursion (Offered p) es
     → (map used (entries_in xs) ≡ es) × (length xs ≡ 4 * length es)
 used_spelt p none w = (refl, omega arith)
 used_spelt p (more {a} {b} {c} {d} {f} {xs} {es} u s) w =
@@ -103,7 +103,7 @@ empties_is : (xs : List ℕ) → Decides (empties xs) (Zeros xs)
 empties_is xs = bytes_eq-Decides xs (0 ∷ 0 ∷ 0 ∷ 0 ∷ [])
 
 -- the entries of valid settings are offered
-pub offered : (c d : Values) (es : List Entry) → d ≡ with_entries c es → valid d ≡ true → All (Offered c.product) es
+pub offered : (c d : Values) (es : List Entry) → d ≡ with_entries c es → valid d ≡ true → AllByRecursion (Offered c.product) es
 offered c d es e v = entries_each c.product es (valid_passed (with_entries c es) (sym (ap valid e) ∙ v)).entries
 
 pub outputs_sound : (c : Values) (xs : List ℕ) (d : Values) → changed_of c (Outputs xs) ≡ Some d → After c (Outputs xs) d × (valid d ≡ true)
@@ -149,7 +149,7 @@ outputs_exactly c xs = exactly _ (changed_of c (Outputs xs)) (outputs_sound c xs
 
 -- no divisor is 0
 pub zero_spelt : (p : Product) (n : ℕ) (before after : List ℕ) (a b : ℕ) {es : List Entry} → length before ≡ 4 * n
-    → Spelt (before ++ (a ∷ b ∷ 0 ∷ 0 ∷ after)) es → All (Offered p) es → ⊥
+    → Spelt (before ++ (a ∷ b ∷ 0 ∷ 0 ∷ after)) es → AllByRecursion (Offered p) es → ⊥
 zero_spelt p n [] after a b e (more u s) w =
     let o = w.0.output in
     let k = w.0.known in

@@ -1,4 +1,6 @@
 // What a message to a unit asks for, by the unit's state and product, the message's identifier and its data.
+#![tactic(auto)]
+
 mod actions;
 mod deciding;
 mod states;

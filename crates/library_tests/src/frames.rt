@@ -56,7 +56,7 @@ fn written_and_read_back(rt: HostRuntime) -> Result<(), Fail> {
     match first_frame(&tray[3..]) {
         Some(read) => {
             assert_eq!(rt; read.identifier, 0x01);
-            assert_eq!(rt; read.content, &[1u8, 2, 3, 4]);
+            assert_eq!(rt; read.content, [1u8, 2, 3, 4].as_slice());
             Ok(())
         }
         None => Err(Fail::new("no frame")),

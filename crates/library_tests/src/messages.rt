@@ -68,7 +68,7 @@ fn packets(rt: HostRuntime) -> Result<(), Fail> {
             ),
         ) => {
             assert_eq!(rt; identifier, 0x1020);
-            assert_eq!(rt; content, &[0u8, 7]);
+            assert_eq!(rt; content, [0u8, 7].as_slice());
             assert!(rt; behind.is_empty());
             Ok(())
         }

@@ -5,11 +5,11 @@ use std::test::Fail;
 #[test]
 fn words_of_a_line(rt: HostRuntime) -> Result<(), Fail> {
     let (line, rest) = next_line(b"  f FA\r\nr").ok_or("no line")?;
-    assert_eq!(rt; line, b"  f FA");
-    assert_eq!(rt; rest, b"r");
+    assert_eq!(rt; line, b"  f FA".as_slice());
+    assert_eq!(rt; rest, b"r".as_slice());
     let (word, behind) = next_word(line).ok_or("no word")?;
-    assert_eq!(rt; word, b"f");
-    assert_eq!(rt; behind, b" FA");
+    assert_eq!(rt; word, b"f".as_slice());
+    assert_eq!(rt; behind, b" FA".as_slice());
     assert!(rt; next_word(b"   ").is_none());
     assert!(rt; next_line(b"").is_none());
     Ok(())
@@ -30,7 +30,7 @@ fn bytes_of_a_line(rt: HostRuntime) -> Result<(), Fail> {
     let Ok(bytes) = bytes_of(rt.alloc(), b" FA 0b ") else {
         return Err(Fail::new("not read"));
     };
-    assert_eq!(rt; bytes.as_slice(), &[0xFAu8, 0x0B]);
+    assert_eq!(rt; bytes.as_slice(), [0xFAu8, 0x0B].as_slice());
     assert!(rt; bytes_of(rt.alloc(), b"FA 1").is_err());
     let mut text = String::new(rt.alloc());
     push_bytes(&mut text, bytes.as_slice())?;

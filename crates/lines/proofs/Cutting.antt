@@ -1,6 +1,6 @@
 -- A list cut at the first of a byte, and its pieces between such bytes.
 use Rattle.std.proofs.Common.{◌≡◌, ℕ, suc, ◌+◌, ◌<◌, ◌≤◌, true, false, cond, eqb, List, [], ◌∷◌, ◌++◌, length, get_or, take, drop, sym, refl, ap, ◌∙◌, ⊎_elim}
-use Rattle.std.specs.List.{AllByRecursion as All}
+use Rattle.std.specs.List.{AllByRecursion}
 use Rattle.std.proofs.lemmas.List.{at_drop_more, at_drop_all, take_at, drop_at, length-append}
 use Rattle.std.proofs.lemmas.Bool.{eq-eqb, ne_eqb, eqb-false, cases_Bool}
 use Rattle.lines.specs.Cuts.{before, from, on_first, pieces}
@@ -37,7 +37,7 @@ take_before c xs = ap (take (length (before c xs))) (sym (before_from c xs)) ∙
 pub drop_before : (c : ℕ) (xs : List ℕ) → drop (length (before c xs)) xs ≡ from c xs
 drop_before c xs = ap (drop (length (before c xs))) (sym (before_from c xs)) ∙ drop_at (before c xs) (from c xs) _ refl
 
-pub none_before : (c : ℕ) (xs : List ℕ) → All (λ x. x ≡ c → ⊥) (before c xs)
+pub none_before : (c : ℕ) (xs : List ℕ) → AllByRecursion (λ x. x ≡ c → ⊥) (before c xs)
 none_before c [] = tt
 none_before c (x ∷ xs) =
     ⊎_elim (λ e. rw e tt) (λ e. rw e (eqb-false x c e, none_before c xs)) (cases_Bool (eqb x c))

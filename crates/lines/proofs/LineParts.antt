@@ -1,7 +1,7 @@
 -- The first line of a text, its end and the rest are the text, and it is the first of all lines.
 use Rattle.std.proofs.Common.{◌≡◌, ℕ, zero, suc, ◌+◌, ◌<◌, Bool, true, false, cond, eqb, List, [], ◌∷◌, ◌++◌, length, get_or, take, drop, Some, None, Option, sym, refl, ap, ◌∙◌, subst, ⊎_elim, arith, Bor, MatchOption}
 use Rattle.std.specs.Option.{option_map}
-use Rattle.std.specs.List.{AllByRecursion as All}
+use Rattle.std.specs.List.{AllByRecursion}
 use Rattle.std.proofs.lemmas.List.{append-nil, append_assoc, length-drop, length_push, same_from_push}
 use Rattle.std.proofs.lemmas.Bool.{eqb-true, eqb-false, eq-eqb, ne_eqb, cases_Bool, true≢false}
 use Rattle.lines.specs.Cuts.{before, from, seen}
@@ -57,9 +57,9 @@ trimmed (x ∷ y ∷ ys) =
           (t.bare f) e;
     }
 
-all_trimmed : (P : ℕ → Type 0) (xs : List ℕ) → All P xs → All P (without_return xs)
+all_trimmed : (P : ℕ → Type 0) (xs : List ℕ) → AllByRecursion P xs → AllByRecursion P (without_return xs)
 all_trimmed P [] a = tt
-all_trimmed P (x ∷ []) a = elim (eqb x 13) as (λ t. All P (cond t [] (x ∷ []))) [ true ↦ tt | false ↦ a ]
+all_trimmed P (x ∷ []) a = elim (eqb x 13) as (λ t. AllByRecursion P (cond t [] (x ∷ []))) [ true ↦ tt | false ↦ a ]
 all_trimmed P (x ∷ y ∷ ys) a = (a.0, all_trimmed P (y ∷ ys) a.1)
 
 -- ---- the line feed

@@ -1,6 +1,6 @@
 -- What is printed reads back.
 use Rattle.std.proofs.Common.{◌≡◌, ℕ, ◌+◌, ◌/◌, ◌%◌, ◌<◌, List, [], ◌∷◌, ◌++◌, map, length, get_or, take, Some, IsUtf8, sym, refl, ap, ◌∙◌, arith}
-use Rattle.std.specs.List.{AllByRecursion as All}
+use Rattle.std.specs.List.{AllByRecursion}
 use Rattle.std.proofs.ByRecursion.{IsAscii-from_all}
 use Rattle.std.proofs.lemmas.List.{flat_map_more, take_more}
 use Rattle.std.proofs.lemmas.Str.{IsUtf8-from_ascii}
@@ -14,11 +14,11 @@ use Rattle.lines.proofs.WordParts.{words_first}
 
 -- ---- a word in front of a space or the end
 
-before_word : (word rest : List ℕ) → All (λ x. x ≡ 32 → ⊥) word → before 32 rest ≡ [] → before 32 (word ++ rest) ≡ word
+before_word : (word rest : List ℕ) → AllByRecursion (λ x. x ≡ 32 → ⊥) word → before 32 rest ≡ [] → before 32 (word ++ rest) ≡ word
 before_word [] rest a e = e
 before_word (x ∷ word) rest a e = rw (ne_eqb x 32 a.0) (ap (λ l. x ∷ l) (before_word word rest a.1 e))
 
-from_word : (word rest : List ℕ) → All (λ x. x ≡ 32 → ⊥) word → from 32 rest ≡ rest → from 32 (word ++ rest) ≡ rest
+from_word : (word rest : List ℕ) → AllByRecursion (λ x. x ≡ 32 → ⊥) word → from 32 rest ≡ rest → from 32 (word ++ rest) ≡ rest
 from_word [] rest a e = e
 from_word (x ∷ word) rest a e = rw (ne_eqb x 32 a.0) (from_word word rest a.1 e)
 
@@ -48,13 +48,13 @@ digit_no_space n e = grind (arith, nat_tests)
 words_printed : (xs : List ℕ) → words_of (printed xs) ≡ map digits_of xs
 words_printed [] = refl
 words_printed (x ∷ xs) =
-    let no : All (λ y. y ≡ 32 → ⊥) (digits_of x) = (digit_no_space (x / 16), (digit_no_space (x % 16), tt)) in
+    let no : AllByRecursion (λ y. y ≡ 32 → ⊥) (digits_of x) = (digit_no_space (x / 16), (digit_no_space (x % 16), tt)) in
     let b = before_word (digits_of x) (printed xs) no (before_printed xs) in
     let f = from_word (digits_of x) (printed xs) no (from_printed xs) in
     words_first (hex_digit (x / 16)) (hex_digit (x % 16) ∷ printed xs) (ne_eqb _ 32 (digit_no_space (x / 16)))
     ∙ (λ i. b i ∷ (ap words_of f ∙ words_printed xs) i)
 
-bytes_of_digits : (xs : List ℕ) → All (λ x. x < 256) xs → bytes_in (map digits_of xs) ≡ Some xs
+bytes_of_digits : (xs : List ℕ) → AllByRecursion (λ x. x < 256) xs → bytes_in (map digits_of xs) ≡ Some xs
 bytes_of_digits [] a = refl
 bytes_of_digits (x ∷ xs) a = λ i. joined_to (byte_of_digits x a.0 i) (bytes_of_digits xs a.1 i)
 

@@ -1,7 +1,7 @@
 -- The spaces, the first word and the rest are the line, and it is the first of all words.
 use Rattle.std.proofs.Common.{◌≡◌, ℕ, suc, ◌+◌, ◌-◌, ◌<◌, false, eqb, List, [], ◌∷◌, ◌++◌, length, get_or, take, drop, replicate, Some, None, filter, Option, sym, refl, ap, ◌∙◌, subst, ⊎_elim, arith, Bor, MatchOption}
 use Rattle.std.specs.Option.{option_map}
-use Rattle.std.specs.List.{AllByRecursion as All}
+use Rattle.std.specs.List.{AllByRecursion}
 use Rattle.std.proofs.lemmas.List.{take_rest, length-append}
 use Rattle.std.proofs.lemmas.Bool.{eqb-true, eq-eqb, ne_eqb, cases_Bool}
 use Rattle.lines.specs.Cuts.{before, from, seen}
@@ -30,7 +30,7 @@ spaces_whole (x ∷ xs) =
     (λ e. (0, rw e refl))
     (cases_Bool (eqb x 32))
 
-only_spaces : (xs : List ℕ) → past_spaces xs ≡ [] → All (λ x. x ≡ 32) xs
+only_spaces : (xs : List ℕ) → past_spaces xs ≡ [] → AllByRecursion (λ x. x ≡ 32) xs
 only_spaces [] h = tt
 only_spaces (x ∷ xs) h =
     ⊎_elim (λ e. (eqb-true x 32 e, only_spaces xs (rw e at h))) (λ e. absurd (not_empty (rw e at h))) (cases_Bool (eqb x 32))
@@ -75,7 +75,7 @@ pub word_is : (line : List ℕ) (q : Bor (List ℕ) × Bor (List ℕ)) (xs : Lis
 word_is line q [] e h f g = absurd (omega arith)
 word_is line q (x ∷ xs) e h f g = (λ i. Some (f i, g i)) ∙ ap word_at e
 
-word_by : (r : Option (Bor (List ℕ) × Bor (List ℕ))) (line xs : List ℕ) → past_spaces line ≡ xs → option_map seen r ≡ word_at xs → MatchOption r (All (λ x. x ≡ 32) line) (λ q. WordOf line q.0.now q.1.now)
+word_by : (r : Option (Bor (List ℕ) × Bor (List ℕ))) (line xs : List ℕ) → past_spaces line ≡ xs → option_map seen r ≡ word_at xs → MatchOption r (AllByRecursion (λ x. x ≡ 32) line) (λ q. WordOf line q.0.now q.1.now)
 word_by None line [] p e = only_spaces line p
 word_by None line (y ∷ ys) p e = grind arith
 word_by (Some q) line [] p e = grind arith
@@ -84,7 +84,7 @@ word_by (Some q) line (y ∷ ys) p e =
     let f : (before 32 (y ∷ ys), from 32 (y ∷ ys)) ≡ seen q = cc in
     subst P f (word_of line ys y p)
 
-pub word_cases : (r : Option (Bor (List ℕ) × Bor (List ℕ))) (line : List ℕ) → option_map seen r ≡ next_word line → MatchOption r (All (λ x. x ≡ 32) line) (λ q. WordOf line q.0.now q.1.now)
+pub word_cases : (r : Option (Bor (List ℕ) × Bor (List ℕ))) (line : List ℕ) → option_map seen r ≡ next_word line → MatchOption r (AllByRecursion (λ x. x ≡ 32) line) (λ q. WordOf line q.0.now q.1.now)
 word_cases r line e = word_by r line (past_spaces line) refl e
 
 -- ---- all words

@@ -1,6 +1,6 @@
 -- Bytes as pairs of hexadecimal digits. Assumes nothing.
 use Rattle.std.specs.Prelude.{◌≡◌, ℕ, ◌+◌, ◌-◌, ◌*◌, ◌/◌, ◌%◌, ◌<◌, cond, ◌&&◌, List, [], ◌∷◌, ◌++◌, length, Some, None, Option, ◌≢◌, nat_le, nat_lt}
-use Rattle.std.specs.List.{flat_map, AllByRecursion as All}
+use Rattle.std.specs.List.{flat_map, AllByRecursion}
 use Rattle.lines.specs.Words.{next_word, words_of}
 
 -- what a hexadecimal digit, upper or lower case, stands for; none for any other byte
@@ -51,8 +51,8 @@ printed xs = flat_map (λ b. 32 ∷ digits_of b) xs
 
 -- what is printed reads back
 abbrev pub ReadsBack : Type 0
-ReadsBack = (xs : List ℕ) → All (λ x. x < 256) xs → bytes_of (printed xs) ≡ Some xs
+ReadsBack = (xs : List ℕ) → AllByRecursion (λ x. x < 256) xs → bytes_of (printed xs) ≡ Some xs
 
 -- of what is printed behind a word, the word is the first word and the bytes are the rest
 abbrev pub CommandReadsBack : Type 0
-CommandReadsBack = (word xs : List ℕ) → 0 < length word → All (λ x. x ≢ 32) word → next_word (word ++ printed xs) ≡ Some (word, printed xs)
+CommandReadsBack = (word xs : List ℕ) → 0 < length word → AllByRecursion (λ x. x ≢ 32) word → next_word (word ++ printed xs) ≡ Some (word, printed xs)

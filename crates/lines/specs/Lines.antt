@@ -1,6 +1,6 @@
 -- The lines of a text. Assumes nothing.
 use Rattle.std.specs.Prelude.{◌≡◌, ℕ, ◌<◌, Bool, false, cond, List, [], ◌∷◌, ◌++◌, length, drop, Some, None, Option, ◌==◌, ◌≢◌}
-use Rattle.std.specs.List.{AllByRecursion as All}
+use Rattle.std.specs.List.{AllByRecursion}
 use Rattle.lines.specs.Cuts.{before, from, pieces}
 
 -- a line without one carriage return at its end
@@ -35,7 +35,7 @@ pub record LineOf (text line rest : List ℕ) : Type 0 where
   -- only the last line may lack a line feed
   pub last : feed ≡ false → rest ≡ []
   -- the line holds no line feed
-  pub one_line : All (λ x. x ≢ 10) line
+  pub one_line : AllByRecursion (λ x. x ≢ 10) line
   -- a carriage return at the end is no part of the line
   pub bare : return ≡ false → (front : List ℕ) → line ≢ front ++ 13 ∷ []
   pub shorter : length rest < length text

@@ -1,6 +1,6 @@
 -- The words of a line. Assumes nothing.
 use Rattle.std.specs.Prelude.{◌≡◌, ℕ, ◌<◌, Bool, true, false, cond, List, [], ◌∷◌, ◌++◌, length, replicate, Some, None, filter, Option, ◌==◌, ◌≢◌, slice_index}
-use Rattle.std.specs.List.{AllByRecursion as All}
+use Rattle.std.specs.List.{AllByRecursion}
 use Rattle.lines.specs.Cuts.{before, from, pieces}
 
 -- a line without the spaces at its front
@@ -34,7 +34,7 @@ pub record WordOf (line word rest : List ℕ) : Type 0 where
   pub whole : replicate spaces 32 ++ (word ++ rest) ≡ line
   -- the word is not empty and holds no space
   pub filled : 0 < length word
-  pub solid : All (λ x. x ≢ 32) word
+  pub solid : AllByRecursion (λ x. x ≢ 32) word
   -- a space stands behind the word, or nothing does
   pub parted : 0 < length rest → slice_index rest 0 ≡ 32
   pub shorter : length rest < length line

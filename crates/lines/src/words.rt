@@ -1,7 +1,7 @@
 // A line read word by word.
 ghost use Rattle.std.specs.Prelude.{◌≡◌, [], ◌∷◌, Some, MatchOption, MatchResult};
 ghost use Rattle.std.specs.Option.{option_map};
-ghost use Rattle.std.specs.List.{AllByRecursion as All};
+ghost use Rattle.std.specs.List.{AllByRecursion};
 ghost use Rattle.lines.specs.Bytes.{bytes_of};
 ghost use Rattle.lines.specs.Faults.{Faulty};
 ghost use Rattle.lines.specs.declared.words.LineFault.TheVariants.{Memory};
@@ -55,7 +55,7 @@ fn past_spaces(line: &[u8]) -> &[u8]
 // The first word of a line, and the line behind it.
 pub fn next_word(line: &[u8]) -> Option<(&[u8], &[u8])>
     ensures value { option_map seen result ≡ next_word line.now }
-    ensures parts { MatchOption result (All (λ x. x ≡ 32) line.now) (λ q. WordOf line.now q.0.now q.1.now) }
+    ensures parts { MatchOption result (AllByRecursion (λ x. x ≡ 32) line.now) (λ q. WordOf line.now q.0.now q.1.now) }
     ensures words { MatchOption result (words_of line.now ≡ []) (λ q. words_of line.now ≡ q.0.now ∷ words_of q.1.now) }
 {
     let rest = past_spaces(line);

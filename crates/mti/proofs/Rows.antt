@@ -1,6 +1,6 @@
 -- The table's rule, by one test that antt computes, and what looking into the table finds.
 use Rattle.std.proofs.Common.{◌≡◌, ℕ, zero, suc, ◌%◌, ◌<◌, Bool, true, ◌&&◌, ◌||◌, eqb, ltb, leb, List, [], ◌∷◌, length, get_or, Some, Option, sym, refl, ap, ◌∙◌, inl, inr, ⊎_elim, arith}
-use Rattle.std.specs.List.{ContainsAt as Has, AllByRecursion as All}
+use Rattle.std.specs.List.{ContainsAt as Has, AllByRecursion}
 use Rattle.std.proofs.ByRecursion.{all-has}
 use Rattle.std.proofs.lemmas.Bool.{and_parts, or_cases, ltb-true, leb-true, eqb-true, eq-eqb, ne_eqb, cond-true, cond-false, cond_both}
 use Rattle.mti.specs.declared.channel.Kind.{Kind}
@@ -55,7 +55,7 @@ parts n c cs t =
     let q = and_parts (ltb n c.identifier) _ p.1 in
     (p.0, ltb-true _ _ q.0, q.1)
 
-all_regular : (n : ℕ) (cs : List Channel) → orderly n cs ≡ true → All Regular cs
+all_regular : (n : ℕ) (cs : List Channel) → orderly n cs ≡ true → AllByRecursion Regular cs
 all_regular n [] t = tt
 all_regular n (c ∷ cs) t = let p = parts n c cs t in (regular_is c p.0, all_regular c.identifier cs p.2)
 

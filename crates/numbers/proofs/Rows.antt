@@ -1,7 +1,7 @@
 -- The worked values, by one test that antt computes, and zero.
 use Rattle.std.proofs.Common.{◌≡◌, Bool, true, ◌&&◌, eqb, List, [], ◌∷◌, replicate, pos, refl, ap}
 use lib.Ieee.{round, to_bits}
-use Rattle.std.specs.List.{AllByRecursion as All}
+use Rattle.std.specs.List.{AllByRecursion}
 use Rattle.std.proofs.lemmas.Bool.{and_parts, eqb-true}
 use Rattle.xbus.specs.Numbers.{be}
 use Rattle.mti.specs.Precisions.{width_of}
@@ -15,7 +15,7 @@ abbrev right : List Row → Bool
 right [] = true
 right (r ∷ rs) = eqb (code_of r.p r.v) r.b && right rs
 
-rows : (rs : List Row) → right rs ≡ true → All Sent rs
+rows : (rs : List Row) → right rs ≡ true → AllByRecursion Sent rs
 unfolding encoded
 rows [] t = tt
 rows (r ∷ rs) t =

@@ -1,6 +1,6 @@
 -- Readings with the bytes that they are sent as.
 use Rattle.std.specs.Prelude.{◌≡◌, ℕ, ◌+◌, ◌-◌, ◌^◌, List, [], ◌∷◌, ℤ, pos, negsuc}
-use Rattle.std.specs.List.{AllByRecursion as All}
+use Rattle.std.specs.List.{AllByRecursion}
 use Rattle.xbus.specs.Numbers.{be}
 use Rattle.mti.specs.Precisions.{width_of}
 use Rattle.mti.specs.declared.precision.Precision.{Precision}
@@ -47,4 +47,4 @@ abbrev pub Sent : Row → Type 0
 Sent r = encoded r.p r.v ≡ be (width_of r.p) r.b
 
 abbrev pub Worked : Type 0
-Worked = All Sent table
+Worked = AllByRecursion Sent table

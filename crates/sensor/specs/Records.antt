@@ -1,7 +1,7 @@
 -- Recorded rows, and what a sensor means that replays them. Assumes nothing.
 use Rattle.std.specs.Prelude.{◌≡◌, ℕ, ◌≤◌, Bool, cond, ◌&&◌, ◌⊎◌, List, ◌∷◌, ◌++◌, ℤ, pos, Some, None, fold, Option, ◌==◌, nat_le, slice_index_or}
 use Rattle.std.specs.Option.{option_map, option_flatten}
-use Rattle.std.specs.List.{AllByRecursion as All}
+use Rattle.std.specs.List.{AllByRecursion}
 use Rattle.mti.specs.declared.channel.Kind.{Kind}
 use Rattle.sensor.specs.declared.records.Row.{Row}
 use Rattle.sensor.specs.Questions.{asked_of, Asked}
@@ -41,7 +41,7 @@ Counts c t r = (r.channel ≡ c) × (r.tick ≤ t)
 
 -- no row counts
 abbrev pub NoneCounts : ℕ → ℕ → List Row → Type 0
-NoneCounts c t rows = All (λ r. Counts c t r → ⊥) rows
+NoneCounts c t rows = AllByRecursion (λ r. Counts c t r → ⊥) rows
 
 -- the row stands in the list, counts, and no row behind it does
 pub record Last (c t : ℕ) (rows : List Row) (row : Row) : Type 0 where

@@ -1,6 +1,6 @@
 -- Alike sessions agree: what happens is read off the tape, and the same happenings at the same core do the same.
 use Rattle.std.proofs.Common.{◌≡◌, ℕ, ◌^◌, ◌<◌, true, false, List, [], ◌∷◌, ◌++◌, map, None, sym, refl, ap, ◌∙◌, subst, ap₂, arith}
-use Rattle.std.specs.List.{AllByRecursion as All}
+use Rattle.std.specs.List.{AllByRecursion}
 use Rattle.std.proofs.lemmas.List.{append-nil}
 use Rattle.settings.specs.Factory.{factory_of}
 use Rattle.session.specs.Model.{Core, Kept, Model, World, no_counts, making, EndState, end_of}
@@ -33,7 +33,7 @@ module _ (v w : World) (a : Alike v w) where
       ∙ does_meant v w n.what n.before a (subst (λ (c : Core). c.counts.number < 2 ^ 32) b t)
       ∙ sym y.done
 
-  tale_agrees : (ms ns : List Moment) (c d e : Core) → All (Happens v) ms → All (Happens w) ns → Linked c ms d → Linked c ns e
+  tale_agrees : (ms ns : List Moment) (c d e : Core) → AllByRecursion (Happens v) ms → AllByRecursion (Happens w) ns → Linked c ms d → Linked c ns e
       → what_in ms ≡ what_in ns → c.counts.number < 2 ^ 32 → Agrees ms ns d e
   tale_agrees [] [] c d e x y l k h t = record { wrote = refl; ends = sym l ∙ k }
   tale_agrees [] (n ∷ ns) c d e x y l k h t = let z : ◌≡◌ {A = ℕ} 0 1 = cc in absurd (omega arith)

@@ -1,6 +1,6 @@
 -- The laws, for every session, and for every session with one more call behind it.
 use Rattle.std.proofs.Common.{◌≡◌, ℕ, ◌+◌, true, false, List, [], ◌∷◌, ◌++◌, map, length, None, sym, refl, ap, ◌∙◌, subst, ap₂, add-zero, arith}
-use Rattle.std.specs.List.{flat_map, AllByRecursion as All}
+use Rattle.std.specs.List.{flat_map, AllByRecursion}
 use Rattle.stream.specs.Reading.{Piece, frame, stray, left, read_of}
 use Rattle.stream.proofs.Readings.{frames_are_read}
 use Rattle.xbus.specs.Parts.{Parts}
@@ -18,7 +18,7 @@ use Rattle.session.proofs.Runs.{Told, told, wrote_in}
 use Rattle.session.proofs.Tales.{Frames, moment_frames, tale_frames, tale_cost, tale_held, tale_restores, tale_restorable, LastKept}
 use Rattle.session.proofs.Agreeing.{agreeing}
 
-all_of : {X : Type 0} (P Q : X → Type 0) → ((x : X) → P x → Q x) → (xs : List X) → All P xs → All Q xs
+all_of : {X : Type 0} (P Q : X → Type 0) → ((x : X) → P x → Q x) → (xs : List X) → AllByRecursion P xs → AllByRecursion Q xs
 all_of P Q f [] a = tt
 all_of P Q f (x ∷ xs) (h, a) = (f x h, all_of P Q f xs a)
 
@@ -83,8 +83,8 @@ lawful w es k s =
       outputs = t.wrote;
       done = all_of (Happens w) (Done w) (λ m h. h.done) ms t.each;
       replied = all_of (Happens w) (λ m. (p : Parts) → m.what ≡ serves p → Replied p m) (λ m h. happens_replied w m h) ms t.each;
-      restores = λ a b c x r e. tale_restores w a b c x r (making w).core k.core (subst (All (Happens w)) e t.each) (subst Chain e t.linked);
-      restorable = λ a c r e. tale_restorable w a c r (making w).core k.core (subst (All (Happens w)) e t.each) (subst Chain e t.linked) (dark_told w es k);
+      restores = λ a b c x r e. tale_restores w a b c x r (making w).core k.core (subst (AllByRecursion (Happens w)) e t.each) (subst Chain e t.linked);
+      restorable = λ a c r e. tale_restorable w a c r (making w).core k.core (subst (AllByRecursion (Happens w)) e t.each) (subst Chain e t.linked) (dark_told w es k);
       all_frames = all_read (written es) (moment_frames w.meaning ms) out;
       counted = all_counted (written es) (moment_frames w.meaning ms) out;
       cost = ap (λ (x : Kept). x.left) (sym (store_told w es k)) ∙ tale_cost w ms (making w).core k.core t.each t.linked;

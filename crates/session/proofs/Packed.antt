@@ -1,6 +1,6 @@
 -- The packets of a tick: their sizes, their bytes, and that they are well_formed.
 use Rattle.std.proofs.Common.{◌≡◌, ℕ, zero, suc, ◌+◌, ◌*◌, ◌<◌, ◌≤◌, false, eqb, List, [], ◌∷◌, length, ℤ, IfSome, Some, None, Option, sym, refl, ap, ◌∙◌, mod-lt, arith, lit<}
-use Rattle.std.specs.List.{flat_map, AllByRecursion as All}
+use Rattle.std.specs.List.{flat_map, AllByRecursion}
 use Rattle.std.specs.Option.{option_map}
 use Rattle.std.proofs.lemmas.List.{length-append}
 use Rattle.std.proofs.lemmas.Bool.{cond_both, eqb-true, or_from}
@@ -161,7 +161,7 @@ packets_bytes f n (e ∷ es) =
     (bytes_append (be 2 e.identifier) (length xs ∷ xs) (be_bytes 2 e.identifier) (omega arith, data_bytes_lem f n o xs d))
     (packets_bytes f n es))
 
-pub packets_formed : (f : Meaning) (n : Counts) (es : List Entry) → All (λ e. e.identifier < 65536) es → EachWellFormed (packets f n es)
+pub packets_formed : (f : Meaning) (n : Counts) (es : List Entry) → AllByRecursion (λ e. e.identifier < 65536) es → EachWellFormed (packets f n es)
 unfolding packets
 packets_formed f n [] a = tt
 packets_formed f n (e ∷ es) a =
@@ -183,10 +183,10 @@ packets_formed f n (e ∷ es) a =
 
 -- each has at most 72 data bytes, and there are no more than entries
 pub packets_sizes : (f : Meaning) (n : Counts) (es : List Entry)
-    → All (λ i. length i.bytes ≤ 72) (packets f n es) × (length (packets f n es) ≤ length es)
+    → AllByRecursion (λ i. length i.bytes ≤ 72) (packets f n es) × (length (packets f n es) ≤ length es)
 unfolding packets
 packets_sizes f n [] = (tt, omega arith)
 packets_sizes f n (e ∷ es) =
     let h = packets_sizes f n es in
-    packets_by_lem f n e es (λ is. All (λ i. length i.bytes ≤ 72) is × (length is ≤ suc (length es))) (h.0, omega arith)
+    packets_by_lem f n e es (λ is. AllByRecursion (λ i. length i.bytes ≤ 72) is × (length is ≤ suc (length es))) (h.0, omega arith)
     (λ o xs k d. ((data_short f n e.identifier o xs k d, h.0), omega arith))

@@ -1,6 +1,6 @@
 -- What a whole session tells: its moments, by induction over its calls.
 use Rattle.std.proofs.Common.{◌≡◌, ℕ, ◌+◌, Bool, List, [], ◌∷◌, ◌++◌, map, length, drop, Some, None, Option, sym, refl, ap, ◌∙◌, subst, ap₂, append_assoc, add_assoc, zero-add, arith}
-use Rattle.std.specs.List.{flat_map, AllByRecursion as All}
+use Rattle.std.specs.List.{flat_map, AllByRecursion}
 use Rattle.std.proofs.lemmas.List.{append-nil, map-append, drop-drop}
 use Rattle.std.proofs.ByRecursion.{All-append}
 use Rattle.session.specs.Model.{Core, Model, World}
@@ -39,7 +39,7 @@ pub record Told (w : World) (m k : Model) (es : List Entry) (fs : List (List ℕ
   pub many : length fs ≡ frames_served es + length (frames_in k.waiting)
   pub left : left_in (m.waiting ++ bytes_taken es) ≡ left_in k.waiting
   pub flows : (t : List Event) → flow m.waiting (tape es ++ t) ≡ ahead (map (λ x. x.what) (moments_from m fs es)) (flow k.waiting t)
-  pub each : All (Happens w) (moments_from m fs es)
+  pub each : AllByRecursion (Happens w) (moments_from m fs es)
   pub linked : Linked m.core (moments_from m fs es) k.core
   pub wrote : wrote_in (moments_from m fs es) ≡ written es
   pub served : count is_served (moments_from m fs es) ≡ frames_served es

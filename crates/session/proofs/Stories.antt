@@ -1,6 +1,6 @@
 -- From calls to moments: each fair call keeps what a unit always is, and is the moments that reading and its answer tell.
 use Rattle.std.proofs.Common.{◌≡◌, ℕ, ◌+◌, ◌^◌, ◌<◌, Bool, true, false, cond, ltb, List, [], ◌∷◌, ◌++◌, map, length, take, drop, Some, None, Option, sym, refl, ap, ◌∙◌, subst, ap₂, arith}
-use Rattle.std.specs.List.{flat_map, AllByRecursion as All}
+use Rattle.std.specs.List.{flat_map, AllByRecursion}
 use Rattle.std.proofs.lemmas.List.{append-nil}
 use Rattle.std.proofs.lemmas.Bool.{true≢false}
 use Rattle.xbus.specs.declared.front.Front.TheVariants.{Whole}
@@ -58,7 +58,7 @@ pub record Stepped (w : World) (m k : Model) (o : List ℕ) (ev : List Event) (s
   pub passes : drop s fs ≡ gs
   pub many : length fs ≡ s + length gs
   pub flows : (t : List Event) → flow m.waiting (ev ++ t) ≡ ahead (whats h) (flow k.waiting t)
-  pub each : All (Happens w) (moment_by h m.core o k.core)
+  pub each : AllByRecursion (Happens w) (moment_by h m.core o k.core)
   pub linked : Linked m.core (moment_by h m.core o k.core) k.core
   pub wrote : flat_map (λ x. x.wrote) (moment_by h m.core o k.core) ≡ o
   pub served : count is_served (moment_by h m.core o k.core) ≡ s

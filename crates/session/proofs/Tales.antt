@@ -1,6 +1,6 @@
 -- What holds of moments one behind the other, from what holds of each: frames and their count, the store, Reset.
 use Rattle.std.proofs.Common.{◌≡◌, ℕ, ◌+◌, Bool, true, false, cond, ◌&&◌, ◌||◌, eqb, ◌⊎◌, List, [], ◌∷◌, ◌++◌, map, length, is_some, Some, None, Option, sym, refl, ap, ◌∙◌, subst, ap₂, inl, inr, ⊎_elim, append_assoc, zero-add, arith, length-append}
-use Rattle.std.specs.List.{flat_map, AllByRecursion as All}
+use Rattle.std.specs.List.{flat_map, AllByRecursion}
 use Rattle.std.proofs.lemmas.Bool.{cases_Bool, true≢false, false≢true}
 use Rattle.stream.specs.Reading.{EachFrame}
 use Rattle.settings.specs.Image.{image_of}
@@ -15,11 +15,11 @@ use Rattle.session.proofs.Runs.{wrote_in}
 
 -- ---- parts of a list
 
-all_behind : {X : Type 0} (P : X → Type 0) (xs ys : List X) → All P (xs ++ ys) → All P ys
+all_behind : {X : Type 0} (P : X → Type 0) (xs ys : List X) → AllByRecursion P (xs ++ ys) → AllByRecursion P ys
 all_behind P [] ys a = a
 all_behind P (x ∷ xs) ys a = all_behind P xs ys a.1
 
-all_before : {X : Type 0} (P : X → Type 0) (xs ys : List X) → All P (xs ++ ys) → All P xs
+all_before : {X : Type 0} (P : X → Type 0) (xs ys : List X) → AllByRecursion P (xs ++ ys) → AllByRecursion P xs
 all_before P [] ys a = tt
 all_before P (x ∷ xs) ys a = (a.0, all_before P xs ys a.1)
 
@@ -60,7 +60,7 @@ moment_frames_lem : (w : World) (m : Moment) → Happens w m
     → Frames m.wrote (one_if (is_request m) + one_if (is_wake_up m) + one_if (is_passage m) + one_if (is_sample w.meaning m))
 moment_frames_lem w m h = let f = happens_frames w m h in record { list = f.0; each = f.1; bytes = f.2; many = f.3 }
 
-pub tale_frames : (w : World) (ms : List Moment) → All (Happens w) ms → Frames (wrote_in ms) (moment_frames w.meaning ms)
+pub tale_frames : (w : World) (ms : List Moment) → AllByRecursion (Happens w) ms → Frames (wrote_in ms) (moment_frames w.meaning ms)
 unfolding count
 tale_frames w [] a = record { list = []; each = tt; bytes = refl; many = refl }
 tale_frames w (m ∷ ms) (h, a) =
@@ -69,7 +69,7 @@ tale_frames w (m ∷ ms) (h, a) =
 
 -- ---- storing costs exactly one write
 
-pub tale_cost : (w : World) (ms : List Moment) (c d : Core) → All (Happens w) ms → Linked c ms d → c.store.left ≡ d.store.left + count is_stored ms
+pub tale_cost : (w : World) (ms : List Moment) (c d : Core) → AllByRecursion (Happens w) ms → Linked c ms d → c.store.left ≡ d.store.left + count is_stored ms
 unfolding count
 tale_cost w [] c d a e = ap (λ (x : Core). x.store.left) e ∙ omega arith
 tale_cost w (m ∷ ms) c d (h, a) (b, l) =
@@ -78,7 +78,7 @@ tale_cost w (m ∷ ms) c d (h, a) (b, l) =
     let z : m.before.store.left ≡ c.store.left = ap (λ (x : Core). x.store.left) b in
     omega arith
 
-pub tale_held : (w : World) (ms : List Moment) (c d : Core) → All (Happens w) ms → Linked c ms d → d.store.held ≡ last_image c.store.held ms
+pub tale_held : (w : World) (ms : List Moment) (c d : Core) → AllByRecursion (Happens w) ms → Linked c ms d → d.store.held ≡ last_image c.store.held ms
 unfolding last_image
 tale_held w [] c d a e = ap (λ (x : Core). x.store.held) (sym e)
 tale_held w (m ∷ ms) c d (h, a) (b, l) =
@@ -89,14 +89,14 @@ tale_held w (m ∷ ms) c d (h, a) (b, l) =
 -- ---- Reset restores what was stored
 
 -- moments that neither load nor store leave what a Reset would load
-tale_stays : (w : World) (ms : List Moment) (c d : Core) → All (Happens w) ms → Linked c ms d → All (λ y. keeps y ≡ false) ms
+tale_stays : (w : World) (ms : List Moment) (c d : Core) → AllByRecursion (Happens w) ms → Linked c ms d → AllByRecursion (λ y. keeps y ≡ false) ms
     → stored_settings d ≡ stored_settings c
 tale_stays w [] c d a e n = ap stored_settings (sym e)
 tale_stays w (m ∷ ms) c d (h, a) (b, l) (f, n) =
     tale_stays w ms m.after d a l n ∙ happens_stays w m h f ∙ ap stored_settings b
 
-pub tale_restores : (w : World) (a b c : List Moment) (x r : Moment) (k d : Core) → All (Happens w) (a ++ (x ∷ (b ++ (r ∷ c))))
-    → Linked k (a ++ (x ∷ (b ++ (r ∷ c)))) d → keeps x ≡ true → All (λ y. keeps y ≡ false) b → is_reset r ≡ true
+pub tale_restores : (w : World) (a b c : List Moment) (x r : Moment) (k d : Core) → AllByRecursion (Happens w) (a ++ (x ∷ (b ++ (r ∷ c))))
+    → Linked k (a ++ (x ∷ (b ++ (r ∷ c)))) d → keeps x ≡ true → AllByRecursion (λ y. keeps y ≡ false) b → is_reset r ≡ true
     → r.after.settings ≡ x.after.settings
 tale_restores w a b c x r k d h l y n z =
     let hx = all_behind (Happens w) a (x ∷ (b ++ (r ∷ c))) h in
@@ -111,9 +111,9 @@ tale_restores w a b c x r k d h l y n z =
 
 -- a list splits at the last moment that loads or stores, if there is one
 abbrev pub LastKept : List Moment → Type 0
-LastKept ms = (d : List Moment) × (x : Moment) × (b : List Moment) × (ms ≡ d ++ (x ∷ b)) × (keeps x ≡ true) × All (λ y. keeps y ≡ false) b
+LastKept ms = (d : List Moment) × (x : Moment) × (b : List Moment) × (ms ≡ d ++ (x ∷ b)) × (keeps x ≡ true) × AllByRecursion (λ y. keeps y ≡ false) b
 
-last_kept : (ms : List Moment) → LastKept ms ⊎ All (λ y. keeps y ≡ false) ms
+last_kept : (ms : List Moment) → LastKept ms ⊎ AllByRecursion (λ y. keeps y ≡ false) ms
 last_kept [] = inr tt
 last_kept (m ∷ ms) =
     ⊎_elim
@@ -139,7 +139,7 @@ power_no_reset m e = by m.what (acknowledged m) e
 power_keeps : (m : Moment) → is_power m.what ≡ true → keeps m ≡ true
 power_keeps m e = ap (λ (b : Bool). b || is_stored m) e
 
-pub tale_restorable : (w : World) (a c : List Moment) (r : Moment) (k d : Core) → All (Happens w) (a ++ (r ∷ c)) → Linked k (a ++ (r ∷ c)) d
+pub tale_restorable : (w : World) (a c : List Moment) (r : Moment) (k d : Core) → AllByRecursion (Happens w) (a ++ (r ∷ c)) → Linked k (a ++ (r ∷ c)) d
     → k.state ≡ None → is_reset r ≡ true → LastKept a
 tale_restorable w [] c r k d h l e z =
     let p = dark_powers w r h.0 (ap (λ (x : Core). x.state) l.0 ∙ e) in

@@ -1,7 +1,7 @@
 -- The worked cases, by one test that is computed over the whole table.
 use Rattle.std.proofs.Common.{◌≡◌, ℕ, Bool, true, false, ◌&&◌, eqb, List, [], ◌∷◌, sym, refl, ap, ◌∙◌}
 use lib.Ieee.{round, to_bits}
-use Rattle.std.specs.List.{AllByRecursion as All}
+use Rattle.std.specs.List.{AllByRecursion}
 use Rattle.std.specs.Str.{bytes_eq}
 use Rattle.std.proofs.lemmas.Slice.Eq.{bytes_eq-Decides}
 use Rattle.std.proofs.lemmas.Bool.{and_parts, eqb-true, false≢true}
@@ -77,7 +77,7 @@ all_tested : List Case → Bool
 all_tested [] = true
 all_tested (c ∷ cs) = tested c && all_tested cs
 
-cases_hold : (cs : List Case) → all_tested cs ≡ true → All Holds cs
+cases_hold : (cs : List Case) → all_tested cs ≡ true → AllByRecursion Holds cs
 unfolding all_tested
 cases_hold [] e = tt
 cases_hold (c ∷ cs) e = let a = and_parts (tested c) (all_tested cs) e in (case_holds c a.0, cases_hold cs a.1)

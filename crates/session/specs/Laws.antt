@@ -1,6 +1,6 @@
 -- What holds of every session.
 use Rattle.std.specs.Prelude.{◌≡◌, ℕ, ◌+◌, ◌%◌, ◌^◌, ◌<◌, Bool, true, false, ◌||◌, ◌⊎◌, List, [], ◌∷◌, ◌++◌, map, length, drop}
-use Rattle.std.specs.List.{flat_map, AllByRecursion as All}
+use Rattle.std.specs.List.{flat_map, AllByRecursion}
 use Rattle.mti.specs.declared.channel.Channel.{Channel}
 use Rattle.mti.specs.Table.{Row}
 use Rattle.xbus.specs.Parts.{Parts}
@@ -84,14 +84,14 @@ pub record Lawful (w : World) (es : List Entry) (k : Model) : Type 0 where
   pub linked : Linked (making w).core (moments w es) k.core
   pub outputs : flat_map (λ m. m.wrote) (moments w es) ≡ written es
   -- in each, power, the frame or the tick did what is defined, and frames got their replies
-  pub done : All (Done w) (moments w es)
-  pub replied : All (λ m. (p : Parts) → m.what ≡ serves p → Replied p m) (moments w es)
+  pub done : AllByRecursion (Done w) (moments w es)
+  pub replied : AllByRecursion (λ m. (p : Parts) → m.what ≡ serves p → Replied p m) (moments w es)
   -- Reset restores what was stored: right after an acknowledged Reset the settings are those right after the last
   -- stored change, or those that power loaded; and one of these is always there
   pub restores : (a b c : List Moment) (x r : Moment) → moments w es ≡ a ++ (x ∷ (b ++ (r ∷ c))) → keeps x ≡ true
-      → All (λ y. keeps y ≡ false) b → is_reset r ≡ true → r.after.settings ≡ x.after.settings
+      → AllByRecursion (λ y. keeps y ≡ false) b → is_reset r ≡ true → r.after.settings ≡ x.after.settings
   pub restorable : (a c : List Moment) (r : Moment) → moments w es ≡ a ++ (r ∷ c) → is_reset r ≡ true
-      → (d : List Moment) × (x : Moment) × (b : List Moment) × (a ≡ d ++ (x ∷ b)) × (keeps x ≡ true) × All (λ y. keeps y ≡ false) b
+      → (d : List Moment) × (x : Moment) × (b : List Moment) × (a ≡ d ++ (x ∷ b)) × (keeps x ≡ true) × AllByRecursion (λ y. keeps y ≡ false) b
   -- every byte is in a counted frame: reading takes frames from the output, drops nothing and leaves nothing
   pub all_frames : read_of (written es) ≡ map frame (frames_in (written es))
   pub counted : length (frames_in (written es))

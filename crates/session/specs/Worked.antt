@@ -1,6 +1,6 @@
 -- Worked cases, as one table.
 use Rattle.std.specs.Prelude.{◌≡◌, ℕ, ◌-◌, ◌^◌, List, [], ◌∷◌, map, ℤ, pos, negsuc}
-use Rattle.std.specs.List.{AllByRecursion as All}
+use Rattle.std.specs.List.{AllByRecursion}
 use Rattle.mti.specs.declared.precision.Precision.{Precision}
 use Rattle.mti.specs.declared.precision.Precision.TheVariants.{Single, Fixed32, Fixed48}
 use Rattle.stream.specs.Reading.{Piece, frame, stray, left, read_of}
@@ -40,4 +40,4 @@ Holds (rated i asked hz) = used (entry i asked) ≡ entry i hz
 Holds (sent p v xs) = encoded p v ≡ xs
 
 abbrev pub Worked : Type 0
-Worked = All Holds table
+Worked = AllByRecursion Holds table

@@ -1,7 +1,7 @@
 -- What valid settings hold fits its places in the image.
 use Rattle.std.proofs.Common.{◌≡◌, ◌<◌, ◌≤◌, true, length, ⊎_elim, arith}
 use lib.Bits.{bit_and}
-use Rattle.std.specs.List.{AllByRecursion as All}
+use Rattle.std.specs.List.{AllByRecursion}
 use Rattle.std.proofs.lemmas.Nat.{and_le_r}
 use Rattle.std.proofs.ByRecursion.{All-weaker}
 use Rattle.std.proofs.lemmas.Bool.{eqb-true}
@@ -49,7 +49,7 @@ pub record Fits (c : Values) : Type 0 where
   pub location : c.location < 65536
   pub flags : c.flags < 256
   pub few : length c.entries ≤ 32
-  pub each : All Fit c.entries
+  pub each : AllByRecursion Fit c.entries
 
 pub fits : (c : Values) → valid c ≡ true → Fits c
 fits c v =

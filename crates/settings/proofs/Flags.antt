@@ -1,5 +1,5 @@
 -- A number within another as a set of bits: by the bits, and by `and`.
-use Rattle.std.proofs.Common.{◌≡◌, ℕ, suc, ◌+◌, ◌/◌, ◌%◌, ◌^◌, sym, ap, ◌∙◌, ⊎_elim, arith}
+use Rattle.std.proofs.Common.{◌≡◌, ℕ, suc, ◌/◌, ◌%◌, ◌^◌, sym, ap, ◌∙◌, ⊎_elim, arith}
 use native.Mathlib.Nat.{div-div-eq-div-mul, pow-succ'}
 use lib.Arith.{bin_ind}
 use lib.Bits.{bit_and, and_shr, and_step, and_zero_l}

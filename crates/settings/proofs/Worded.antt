@@ -1,6 +1,6 @@
 -- The tests of settings say what the words say.
 use Rattle.std.proofs.Common.{◌≡◌, ℕ, zero, suc, ◌<◌, true, not, eqb, ltb, leb, List, [], ◌∷◌, length, get_or, Some, None, Option, sym, refl, ◌∙◌, inl, inr, ⊎_elim, arith}
-use Rattle.std.specs.List.{ContainsAt as Has, AllByRecursion as All}
+use Rattle.std.specs.List.{ContainsAt as Has, AllByRecursion}
 use Rattle.std.proofs.ByRecursion.{all-has}
 use Rattle.std.proofs.lemmas.Bool.{and_parts, and_from, or_cases, or_left, or_right, leb-true, ltb-true, eqb-true, eqb-false, le-leb, lt-ltb, eq-eqb, ne_eqb, not-true, not_from_false, false≢true}
 use Rattle.mti.specs.declared.product.Product.{Product}
@@ -46,7 +46,7 @@ offered_entry p e w =
 -- ---- the entries
 
 -- each is valid
-pub entries_each : (p : Product) (es : List Entry) → valid_entries p es ≡ true → All (Offered p) es
+pub entries_each : (p : Product) (es : List Entry) → valid_entries p es ≡ true → AllByRecursion (Offered p) es
 entries_each p [] v = tt
 entries_each p (x ∷ es) v =
     let a = and_parts (valid_entry p x) _ v in

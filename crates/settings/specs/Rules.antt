@@ -1,5 +1,5 @@
 -- Which settings a product can have, in words, and that the tests say the same.
-use Rattle.std.specs.Prelude.{◌≡◌, ℕ, ◌+◌, ◌/◌, ◌%◌, ◌^◌, ◌<◌, ◌≤◌, true, ◌⊎◌, List, length, ◌≢◌, slice_index_or}
+use Rattle.std.specs.Prelude.{◌≡◌, ℕ, ◌+◌, ◌/◌, ◌%◌, ◌^◌, ◌<◌, ◌≤◌, true, ◌⊎◌, length, ◌≢◌, slice_index_or}
 use Rattle.std.specs.List.{ContainsAt as Has}
 use Rattle.mti.specs.declared.product.Product.{Product}
 use Rattle.mti.specs.declared.output.Output.{Output}

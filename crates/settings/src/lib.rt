@@ -1,4 +1,6 @@
 // The settings of a unit: their rules, the factory's, and the image under which they are stored.
+#![tactic(auto)]
+
 mod checked;
 mod rate;
 mod record;

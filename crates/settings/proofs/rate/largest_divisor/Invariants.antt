@@ -4,4 +4,4 @@ use Rattle.settings.proofs.rate.largest_divisor.Given as goal
 
 -- what is left decides
 abbrev pub invariant-loop-hz : goal.invariant-loop-hz
-invariant-loop-hz l = divisor_from l.max-hz l.hz ≡ largest_divisor l.max-hz l.asked
+invariant-loop-hz l = divisor_from l.max_hz l.hz ≡ largest_divisor l.max_hz l.asked

@@ -4,12 +4,12 @@ use Rattle.settings.specs.Valid.{valid}
 use Rattle.settings.proofs.FromFactory.{factory_valid, factory_values}
 use Rattle.settings.proofs.checked.Settings.factory.Goals as goal
 
-pub invariant-of-result : goal.invariant-of-result
-invariant-of-result c =
+pub invariant_of-result : goal.invariant_of-result
+invariant_of-result c =
     let p = c.args.product in
-    let e = factory_values p c.first-profile.result (listed c.factory-entries.result) c.first-profile.ensures c.factory-entries.ensures in
-    (ap valid e ∙ factory_valid p, tt)
+    let e = factory_values p c.first_profile.result (listed c.factory_entries.result) c.first_profile.ensures c.factory_entries.ensures in
+    record { ok = ap valid e ∙ factory_valid p }
 
 pub returns : goal.returns
 returns c =
-    factory_values c.args.product c.first-profile.result (listed c.factory-entries.result) c.first-profile.ensures c.factory-entries.ensures
+    factory_values c.args.product c.first_profile.result (listed c.factory_entries.result) c.first_profile.ensures c.factory_entries.ensures

@@ -8,8 +8,8 @@ pub returns : goal.returns
 unfolding image_of
 returns c = record {
   is =
-      sym (take_all 140 c.put-column-2.new.out (omega arith))
-      ∙ (rw (c.put-column-2.ensures, c.put-column.ensures, c.put-fields.ensures, c.as-slice-entries.ensures.is));
+      sym (take_all 140 c.put_column-2.new.out (omega arith))
+      ∙ (rw (c.put_column-2.ensures, c.put_column.ensures, c.put_fields.ensures, c.as_slice-entries.ensures.is));
   size = omega arith;
   said = stored_said;
 }

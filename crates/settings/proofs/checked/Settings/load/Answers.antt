@@ -11,19 +11,19 @@ returns-then-bytes-ne-IMAGE c = record {
   said = stored_said;
 }
 
-pub returns-then-number-at : goal.returns-then-number-at
-returns-then-number-at c = record {
-  is = too_many c.args.product c.args.bytes.now (omega (arith, c.number-at.ensures.is));
+pub returns-then-number_at : goal.returns-then-number_at
+returns-then-number_at c = record {
+  is = too_many c.args.product c.args.bytes.now (omega (arith, c.number_at.ensures.is));
   said = stored_said;
 }
 
-pub returns-in-err-settings : goal.returns-in-err-settings
-returns-in-err-settings c =
-    rw c.from-residual.ensures
+pub returns-in_err-settings : goal.returns-in_err-settings
+returns-in_err-settings c =
+    rw c.from_residual.ensures
     (record {
       is =
           not_valid c.args.product c.args.bytes.now (recorded c.args.product c.read.result) (c.read.ensures c.args.product)
-          c.in-err-settings.ensures.is;
+          c.in_err-settings.ensures.is;
       said = stored_said;
     })
 
@@ -31,7 +31,7 @@ pub returns-then-not-same : goal.returns-then-not-same
 returns-then-not-same c = record {
   is =
       not_same c.args.product c.args.bytes.now (recorded c.args.product c.read.result) (c.read.ensures c.args.product)
-      (values_of c.in-ok-settings.settings) c.in-ok-settings.ensures.is c.image.result
+      (values_of c.in_ok-settings.settings) c.in_ok-settings.ensures.is c.image.result
       c.image.ensures.is c.if-not-same.ensures;
   said = stored_said;
 }
@@ -40,7 +40,7 @@ pub returns : goal.returns
 returns c = record {
   is =
       same_image c.args.product c.args.bytes.now (recorded c.args.product c.read.result) (c.read.ensures c.args.product)
-      (values_of c.in-ok-settings.settings) c.in-ok-settings.ensures.is c.image.result
+      (values_of c.in_ok-settings.settings) c.in_ok-settings.ensures.is c.image.result
       c.image.ensures.is c.if-not-same.ensures;
   said = stored_said;
 }

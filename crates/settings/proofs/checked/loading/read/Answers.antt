@@ -5,13 +5,13 @@ use Rattle.settings.proofs.checked.loading.read.Goals as goal
 pub returns : goal.returns
 unfolding read_of
 returns c p =
-    let es = c.read-entries.ensures ∙ ap (entries_at c.args.bytes.now) c.number-at-6.ensures.is in
+    let es = c.read_entries.ensures ∙ ap (entries_at c.args.bytes.now) c.number_at-6.ensures.is in
     λ i. record {
       product = p;
-      baud = c.number-at.ensures.is i;
-      profile = c.number-at-2.ensures.is i;
-      error_mode = c.number-at-3.ensures.is i;
-      location = c.number-at-4.ensures.is i;
-      flags = c.number-at-5.ensures.is i;
+      baud = c.number_at.ensures.is i;
+      profile = c.number_at-2.ensures.is i;
+      error_mode = c.number_at-3.ensures.is i;
+      location = c.number_at-4.ensures.is i;
+      flags = c.number_at-5.ensures.is i;
       entries = es i;
     }

@@ -11,7 +11,7 @@ loop-i-init c = c.new-entries.ensures
 pub loop-i-preserved : goal.loop-i-preserved
 loop-i-preserved c =
     entry_read c.args.bytes.now c.loop-i.i (listed c.loop-i.entries) (listed c.push.new.self)
-    c.number-at.result c.number-at-in-loop-i.result c.number-at.ensures.is c.number-at-in-loop-i.ensures.is
+    c.number_at.result c.number_at-in-loop-i.result c.number_at.ensures.is c.number_at-in-loop-i.ensures.is
     c.push.result c.push.ensures.is c.push.ensures.after c.loop-i.invariant (omega arith)
 
 pub returns : goal.returns
