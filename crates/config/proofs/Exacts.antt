@@ -1,5 +1,5 @@
 -- A change gives exactly what the words say.
-use Rattle.std.proofs.Common.{◌≡◌, ℕ, zero, ◌^◌, ◌<◌, true, ◌∷◌, ◌++◌, Some, sym, ap, ◌∙◌, ⊎_elim, arith}
+use Rattle.std.proofs.Common.{◌≡◌, ℕ, ◌^◌, ◌<◌, true, ◌∷◌, ◌++◌, Some, sym, ap, ◌∙◌, ⊎_elim, arith}
 use lib.Bits.{and_le_r}
 use Rattle.std.proofs.lemmas.Bool.{eqb-true}
 use Rattle.mti.specs.declared.product.Product.{Product}

@@ -1,5 +1,5 @@
 -- Each bit of the new flags.
-use Rattle.std.proofs.Common.{◌≡◌, ℕ, zero, suc, ◌+◌, ◌-◌, ◌/◌, ◌%◌, ◌^◌, ◌<◌, ◌≤◌, ◌⊎◌, sym, ap, ◌∙◌, inl, inr, ⊎_elim, arith, pow_mono}
+use Rattle.std.proofs.Common.{◌≡◌, ℕ, zero, suc, ◌+◌, ◌-◌, ◌/◌, ◌%◌, ◌^◌, ◌<◌, ◌≤◌, sym, ap, ◌∙◌, inl, inr, ⊎_elim, arith, pow_mono}
 use native.Mathlib.Nat.{div-div-eq-div-mul, div-eq_of_lt, pow-succ'}
 use lib.Bits.{bit_and, bit_or, and_comm, and_shr, or_shr, and_step, or_step}
 use Rattle.std.proofs.lemmas.Bool.{cases_lt, cases_eq}

@@ -1,4 +1,6 @@
 // What messages in the Config state give: changed settings, and the data of answers.
+#![tactic(auto)]
+
 mod answers;
 mod changes;
 mod layout;

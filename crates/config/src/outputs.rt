@@ -42,7 +42,7 @@ fn used_entries(bytes: &[u8]) -> Entries
 fn is_emptying(bytes: &[u8]) -> bool
     ensures { result ≡ empties bytes.now }
 {
-    bytes == [0, 0, 0, 0]
+    matches!(bytes, [0, 0, 0, 0])
 }
 
 // The outputs that the bytes ask for: none for four zeros, else 1 to 32 entries.

@@ -5,4 +5,4 @@ use Rattle.config.proofs.answers.answer.Goals as goal
 
 pub returns : goal.returns
 unfolding answer_of
-returns c = record { count = c.lay-answer.ensures.count; after = c.lay-answer.ensures.after; bound = answer_bound }
+returns c = record { count = c.lay_answer.ensures.count; after = c.lay_answer.ensures.after; bound = answer_bound }

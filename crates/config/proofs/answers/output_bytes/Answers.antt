@@ -9,8 +9,8 @@ pub loop-i-preserved : goal.loop-i-preserved
 loop-i-preserved c = (
   omega arith,
   written_more c.args.entries.now c.loop-i.i c.from.result c.from-in-loop-i.result c.loop-i.out c.put_at.new.out
-      c.put-at-in-loop-i.new.out c.loop-i-test.true c.loop-i.invariant.1 c.from.ensures c.put_at.ensures c.from-in-loop-i.ensures
-      c.put-at-in-loop-i.ensures,
+      c.put_at-in-loop-i.new.out c.loop-i-test.true c.loop-i.invariant.1 c.from.ensures c.put_at.ensures c.from-in-loop-i.ensures
+      c.put_at-in-loop-i.ensures,
 )
 
 pub returns : goal.returns

@@ -10,12 +10,12 @@ use Rattle.config.proofs.layout.configuration.Goals as goal
 pub returns : goal.returns
 unfolding configuration_of
 returns c =
-    let size : c.data-bytes-size.result ≡ data_bytes (values_of c.args.settings.now).entries =
-    c.data-bytes-size.ensures ∙ ap data_bytes c.as-slice.ensures.is ∙ ap (λ (v : Values). data_bytes v.entries) c.values-values.ensures in
+    let size : c.data_bytes-size.result ≡ data_bytes (values_of c.args.settings.now).entries =
+    c.data_bytes-size.ensures ∙ ap data_bytes c.as_slice.ensures.is ∙ ap (λ (v : Values). data_bytes v.entries) c.values-values.ensures in
     record {
       is =
-          sym (take_all 118 c.put-at-6.new.out (omega arith))
-          ∙ rw (c.put-at-6.ensures, c.put-at-5.ensures, c.put-at-4.ensures, c.put-at-3.ensures, c.put-at-2.ensures, c.put_at.ensures, c.from-id.ensures)
+          sym (take_all 118 c.put_at-6.new.out (omega arith))
+          ∙ rw (c.put_at-6.ensures, c.put_at-5.ensures, c.put_at-4.ensures, c.put_at-3.ensures, c.put_at-2.ensures, c.put_at.ensures, c.from-id.ensures)
           (ap (configured c.args.device_id) size);
       said = configuration_said;
     }

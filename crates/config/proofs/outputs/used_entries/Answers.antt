@@ -9,6 +9,6 @@ use Rattle.config.proofs.outputs.used_entries.Goals as goal
 pub loop-rest-preserved : goal.loop-rest-preserved
 loop-rest-preserved c =
     pushed_more (listed c.loop-rest.entries) (listed c.push.new.self) (map used (entries_in c.args.bytes.now))
-    c.loop-rest.rest.now c.used-entry.result c.push.result (omega arith) (simp length-map c.requires) c.loop-rest.invariant
-    (c.used-entry.ensures ∙ (λ i. used (entry (c.from-be-bytes-identifier.ensures i) (c.from-be-bytes-asked.ensures i))))
+    c.loop-rest.rest.now c.used_entry.result c.push.result (omega arith) (simp length-map c.requires) c.loop-rest.invariant
+    (c.used_entry.ensures ∙ (λ i. used (entry (c.from_be_bytes-identifier.ensures i) (c.from_be_bytes-asked.ensures i))))
     c.push.ensures.is c.push.ensures.after

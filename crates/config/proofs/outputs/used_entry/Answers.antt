@@ -8,7 +8,7 @@ use Rattle.config.proofs.outputs.used_entry.Goals as goal
 pub returns-in-Some : goal.returns-in-Some
 unfolding used
 returns-in-Some c =
-    ap (entry c.args.identifier) c.largest-divisor-frequency.ensures.is
+    ap (entry c.args.identifier) c.largest_divisor-frequency.ensures.is
     ∙ ap (λ (o : Option Output). used_of o (entry c.args.identifier c.args.asked)) (sym c.in-Some.is ∙ c.known.ensures.is)
 
 pub returns-in-None : goal.returns-in-None

@@ -1,9 +1,0 @@
--- Slices are equal exactly if their bytes are.
-use Rattle.std.proofs.Common.{[], ◌∷◌}
-use Rattle.std.proofs.lemmas.Slice.Eq.{slice_eq-Decides, bytes_eq-Decides}
-use Rattle.std.proofs.lemmas.Bool.Decides.{same_from_decides, Decides-eqb}
-use Rattle.config.proofs.outputs.is_emptying.Goals as goal
-
-pub returns : goal.returns
-returns c =
-    same_from_decides _ _ (slice_eq-Decides Decides-eqb _ _ _ c.eq.ensures) (bytes_eq-Decides c.args.bytes.now (0 ∷ 0 ∷ 0 ∷ 0 ∷ []))
