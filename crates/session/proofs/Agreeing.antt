@@ -1,14 +1,14 @@
 -- Alike sessions agree: what happens is read off the tape, and the same happenings at the same core do the same.
-use Rattle.std.proofs.Common.{◌≡◌, ℕ, ◌^◌, ◌<◌, true, false, List, [], ◌∷◌, ◌++◌, map, None, sym, refl, ap, ◌∙◌, subst, ap₂, arith}
+use Rattle.std.proofs.Common.{◌≡◌, ℕ, ◌^◌, ◌<◌, false, List, [], ◌∷◌, ◌++◌, map, None, sym, refl, ap, ◌∙◌, subst, ap₂, arith}
 use Rattle.std.specs.List.{AllByRecursion}
 use Rattle.std.proofs.lemmas.List.{append-nil}
 use Rattle.settings.specs.Factory.{factory_of}
-use Rattle.session.specs.Model.{Core, Kept, Model, World, no_counts, making, EndState, end_of}
+use Rattle.session.specs.Model.{Core, Kept, Model, World, no_counts, making, end_of}
 use Rattle.session.specs.Filling.{is_whole}
 use Rattle.session.specs.Sessions.{Entry, Session, written, bytes_taken, Event, tape}
-use Rattle.session.specs.Moments.{Happening, Moment, frames_in, left_in, moments_from}
+use Rattle.session.specs.Moments.{Happening, Moment, frames_in, moments_from}
 use Rattle.session.specs.Laws.{Alike, Linked, does}
-use Rattle.session.proofs.Readings.{Read, reads, reads_quiet}
+use Rattle.session.proofs.Readings.{Read, reads_quiet}
 use Rattle.session.proofs.Flows.{Flow, ahead, framed, flow, flow_end}
 use Rattle.session.proofs.Happens.{Happens}
 use Rattle.session.proofs.Sound.{happens_number}

@@ -1,5 +1,5 @@
 -- What the crates below give: settings are valid and stay so, and what is sent of them is bytes of a frame's size.
-use Rattle.std.proofs.Common.{◌≡◌, ℕ, ◌≤◌, true, List, length, Some, None, refl, subst, arith}
+use Rattle.std.proofs.Common.{◌≡◌, ℕ, ◌≤◌, true, List, length, Some, refl, subst, arith}
 use Rattle.mti.specs.declared.product.Product.{Product}
 use Rattle.xbus.specs.Numbers.{Bytes}
 use Rattle.decision.specs.declared.actions.Question.{Question}

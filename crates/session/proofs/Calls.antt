@@ -1,5 +1,5 @@
 -- The calls, way by way: what holds of each way through a call holds of the call.
-use Rattle.std.proofs.Common.{◌≡◌, ℕ, Bool, true, false, cond, ltb, List, [], ◌∷◌, map, take, is_some, Some, None, Option, Result, sym, refl, ap, ◌∙◌, subst, subst₂, ⊎_elim}
+use Rattle.std.proofs.Common.{◌≡◌, ℕ, Bool, true, false, ltb, List, [], ◌∷◌, map, take, is_some, Some, None, Option, Result, sym, refl, ap, ◌∙◌, subst, subst₂, ⊎_elim}
 use Rattle.std.proofs.lemmas.Bool.{cases_Bool, cond_both}
 use Rattle.xbus.specs.declared.front.Front.TheVariants.{Whole}
 use Rattle.xbus.specs.Front.{front_of}
@@ -8,7 +8,7 @@ use Rattle.stream.specs.Waiting.{passed}
 use Rattle.session.specs.declared.answers.Fed.{Fed}
 use Rattle.session.specs.declared.answers.Refusal.{Refusal}
 use Rattle.session.specs.declared.answers.Refusal.TheVariants as refusal
-use Rattle.session.specs.Model.{Core, Model}
+use Rattle.session.specs.Model.{Model}
 use Rattle.session.specs.Sending.{wake_up}
 use Rattle.session.specs.Waking.{woken}
 use Rattle.session.specs.Serving.{Step, served}
@@ -17,7 +17,7 @@ use Rattle.session.specs.Filling.{is_whole, fills, filled}
 use Rattle.session.specs.Calls.{Called, with_core, refuses, powered, least_tray, writes, power_call, takes, serves, feed_by, fill, feed_call, too_long, tick_call}
 use Rattle.session.specs.Sessions.{Entry, Power, Feed, Tick, next, Fair, output, taken_by, taken_in, served_by, served_in, Event, On, Byte, Beat, if_accepted, events}
 use Rattle.session.specs.Moments.{Happening, powers, ticks, first_served, behind_first, accepted, fed_frame, fed_rest, happening, unserved}
-use Rattle.session.proofs.Readings.{is_whole, parts_whole, parts_none}
+use Rattle.session.proofs.Readings.{is_whole_lem, parts_whole, parts_none}
 
 -- the frame of k bytes that waits, and what serving it does
 abbrev pub front_parts : List ℕ → ℕ → Parts
@@ -35,7 +35,7 @@ module _ (m : Model) (n : ℕ) where
       (λ d. cond_both (ltb n least_tray) _ _ P (λ _. ref refusal.ShortTray) (λ _. done d))
 
   quiet_parts : (b : Bool) → is_whole m.waiting ≡ b → is_some (first_parts m.waiting) ≡ b
-  quiet_parts true e = let q = is_whole m.waiting e in ap is_some (parts_whole m.waiting q.0 q.1)
+  quiet_parts true e = let q = is_whole_lem m.waiting e in ap is_some (parts_whole m.waiting q.0 q.1)
   quiet_parts false e = ap is_some (parts_none m.waiting e)
 
   pub tick_by_lem : (P : Called ℕ → Type 0) → ((e : Refusal) → P (refuses m e))
@@ -62,7 +62,7 @@ module _ (m : Model) (n : ℕ) where
       cond_both (powered m) _ _ P
       (λ d. cond_both (ltb n least_tray) _ _ P (λ _. ref refusal.ShortTray)
       (λ _. ⊎_elim
-      (λ (e : is_whole w ≡ true). let q = is_whole w e in subst Q (sym (parts_whole w q.0 q.1)) (serve q.0 d q.1))
+      (λ (e : is_whole w ≡ true). let q = is_whole_lem w e in subst Q (sym (parts_whole w q.0 q.1)) (serve q.0 d q.1))
       (λ (e : is_whole w ≡ false). subst Q (sym (parts_none w e)) (waits d e))
       (cases_Bool (is_whole w))))
       (λ _. ref refusal.Dark)

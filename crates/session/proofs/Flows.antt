@@ -1,15 +1,14 @@
 -- What happens in a session is read off its tape alone: frames as reading takes them, power and ticks between them.
-use Rattle.std.proofs.Common.{◌≡◌, ℕ, true, false, List, [], ◌∷◌, ◌++◌, map, length, take, Some, None, Option, sym, refl, ap, ◌∙◌, subst, ap₂, append_assoc}
+use Rattle.std.proofs.Common.{◌≡◌, ℕ, false, List, [], ◌∷◌, ◌++◌, map, take, sym, refl, ap, ◌∙◌, ap₂, append_assoc}
 use Rattle.std.proofs.lemmas.List.{append-nil, map-append}
 use Rattle.xbus.specs.declared.front.Front.TheVariants.{Whole}
 use Rattle.xbus.specs.Front.{front_of}
 use Rattle.xbus.specs.Parts.{parts_of}
-use Rattle.session.specs.Model.{Model}
 use Rattle.session.specs.Filling.{is_whole, fills, filled}
 use Rattle.session.specs.Sessions.{Event, On, Byte, Beat}
-use Rattle.session.specs.Moments.{Happening, powers, serves, ticks, frames_in, left_in, first_served, behind_first}
+use Rattle.session.specs.Moments.{Happening, powers, serves, ticks, frames_in, left_in}
 use Rattle.stream.specs.Waiting.{passed}
-use Rattle.session.proofs.Readings.{Read, reads, onto, reads_none, reads_quiet, reads_filled, reads_passed, Settled}
+use Rattle.session.proofs.Readings.{Read, reads, onto, reads_quiet, reads_filled, reads_passed, Settled}
 
 -- happenings, and the bytes that wait behind them
 abbrev pub Flow : Type 0

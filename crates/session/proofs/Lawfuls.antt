@@ -1,21 +1,20 @@
 -- The laws, for every session, and for every session with one more call behind it.
-use Rattle.std.proofs.Common.{◌≡◌, ℕ, ◌+◌, true, false, List, [], ◌∷◌, ◌++◌, map, length, None, sym, refl, ap, ◌∙◌, subst, ap₂, add-zero, arith}
-use Rattle.std.specs.List.{flat_map, AllByRecursion}
-use Rattle.stream.specs.Reading.{Piece, frame, stray, left, read_of}
+use Rattle.std.proofs.Common.{◌≡◌, ℕ, List, [], ◌∷◌, ◌++◌, map, length, None, sym, refl, ap, ◌∙◌, subst, arith}
+use Rattle.std.specs.List.{AllByRecursion}
+use Rattle.stream.specs.Reading.{frame, read_of}
 use Rattle.stream.proofs.Readings.{frames_are_read}
 use Rattle.xbus.specs.Parts.{Parts}
-use Rattle.session.specs.Model.{Core, Kept, Model, World, making}
-use Rattle.session.specs.Filling.{is_whole}
-use Rattle.session.specs.Sessions.{Entry, Fair, next, Session, written, bytes_taken, frames_served}
+use Rattle.session.specs.Model.{Kept, Model, World, making}
+use Rattle.session.specs.Sessions.{Entry, Fair, next, Session, written, bytes_taken}
 use Rattle.session.specs.Moments.{Moment, serves, frames_of, frames_in, left_in, moments_from, moments}
 use Rattle.session.specs.Counting.{last_image}
-use Rattle.session.specs.Laws.{Linked, Done, Replied, Lawful, Extends, Begins, Extended}
-use Rattle.session.proofs.Readings.{Read, reads, reads_quiet}
+use Rattle.session.specs.Laws.{Linked, Done, Replied, Lawful, Begins, Extended}
+use Rattle.session.proofs.Readings.{Read, reads_quiet}
 use Rattle.session.proofs.Happens.{Happens}
 use Rattle.session.proofs.Replying.{happens_replied}
-use Rattle.session.proofs.Stories.{Inv, inv_making}
-use Rattle.session.proofs.Runs.{Told, told, wrote_in}
-use Rattle.session.proofs.Tales.{Frames, moment_frames, tale_frames, tale_cost, tale_held, tale_restores, tale_restorable, LastKept}
+use Rattle.session.proofs.Stories.{inv_making}
+use Rattle.session.proofs.Runs.{Told, told}
+use Rattle.session.proofs.Tales.{Frames, moment_frames, tale_frames, tale_cost, tale_held, tale_restores, tale_restorable}
 use Rattle.session.proofs.Agreeing.{agreeing}
 
 all_of : {X : Type 0} (P Q : X → Type 0) → ((x : X) → P x → Q x) → (xs : List X) → AllByRecursion P xs → AllByRecursion Q xs

@@ -1,11 +1,11 @@
 -- Reading what waits together with more bytes: dropping, filling and passing take nothing from what reading takes.
-use Rattle.std.proofs.Common.{◌≡◌, ℕ, zero, suc, ◌+◌, ◌<◌, ◌≤◌, Bool, true, false, cond, ◌⊎◌, List, [], ◌∷◌, ◌++◌, length, take, drop, Some, None, Option, sym, refl, ap, ◌∙◌, subst, ap₂, inl, inr, ⊎_elim, append_assoc, one-add, arith}
-use Rattle.std.proofs.lemmas.List.{take-append-le, drop-append-le, append-nil}
+use Rattle.std.proofs.Common.{◌≡◌, ℕ, suc, ◌≤◌, true, false, ◌⊎◌, List, [], ◌∷◌, ◌++◌, length, take, drop, Some, None, sym, refl, ap, ◌∙◌, subst, ap₂, inl, inr, ⊎_elim, append_assoc, one-add, arith}
+use Rattle.std.proofs.lemmas.List.{take-append-le, drop-append-le}
 use Rattle.std.proofs.lemmas.Bool.{cases_Bool, cond_both, true≢false, false≢true}
 use Rattle.xbus.specs.declared.front.Front.{Front}
 use Rattle.xbus.specs.declared.front.Front.TheVariants.{Whole, Waits, Wrong}
 use Rattle.xbus.specs.Front.{front_of}
-use Rattle.xbus.specs.Parts.{Parts, parts_of, whole_parts, first_parts}
+use Rattle.xbus.specs.Parts.{parts_of, whole_parts, first_parts}
 use Rattle.xbus.proofs.Fronts.{front_stays, front_bounded, waits_not_wrong, whole_not_wrong, whole_not_waits}
 use Rattle.stream.specs.Settling.{dropped, settled}
 use Rattle.stream.specs.Waiting.{if_whole, took, passed}
@@ -108,8 +108,8 @@ some_front (Whole n) e = (n, refl)
 some_front Waits e = absurd (false≢true e)
 some_front Wrong e = absurd (false≢true e)
 
-pub is_whole : (w : List ℕ) → is_whole w ≡ true → (n : ℕ) × (front_of w ≡ Whole n)
-is_whole w e = some_front (front_of w) e
+pub is_whole_lem : (w : List ℕ) → is_whole w ≡ true → (n : ℕ) × (front_of w ≡ Whole n)
+is_whole_lem w e = some_front (front_of w) e
 
 pub waits_front : (w : List ℕ) → is_whole w ≡ false → Settled w → front_of w ≡ Waits
 waits_front w e s = none_front (front_of w) e s

@@ -4,7 +4,7 @@ use Rattle.std.specs.List.{flat_map, AllByRecursion}
 use Rattle.std.proofs.lemmas.List.{append-nil, map-append, drop-drop}
 use Rattle.std.proofs.ByRecursion.{All-append}
 use Rattle.session.specs.Model.{Core, Model, World}
-use Rattle.session.specs.Sessions.{Entry, next, Fair, Session, output, written, taken_in, bytes_taken, served_in, frames_served, Event, events, tape}
+use Rattle.session.specs.Sessions.{Entry, next, Session, output, written, taken_in, bytes_taken, served_in, frames_served, Event, events, tape}
 use Rattle.session.specs.Moments.{Happening, Moment, frames_in, left_in, happening, unserved, moment_by, moments_from}
 use Rattle.session.specs.Counting.{one_if, is_served, count}
 use Rattle.session.specs.Laws.{Linked}

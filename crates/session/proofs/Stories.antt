@@ -1,5 +1,5 @@
 -- From calls to moments: each fair call keeps what a unit always is, and is the moments that reading and its answer tell.
-use Rattle.std.proofs.Common.{◌≡◌, ℕ, ◌+◌, ◌^◌, ◌<◌, Bool, true, false, cond, ltb, List, [], ◌∷◌, ◌++◌, map, length, take, drop, Some, None, Option, sym, refl, ap, ◌∙◌, subst, ap₂, arith}
+use Rattle.std.proofs.Common.{◌≡◌, ℕ, ◌+◌, ◌^◌, ◌<◌, true, false, ltb, List, [], ◌∷◌, ◌++◌, map, length, take, drop, Some, None, Option, sym, refl, ap, ◌∙◌, subst, ap₂, arith}
 use Rattle.std.specs.List.{flat_map, AllByRecursion}
 use Rattle.std.proofs.lemmas.List.{append-nil}
 use Rattle.std.proofs.lemmas.Bool.{true≢false}
@@ -8,7 +8,6 @@ use Rattle.xbus.specs.Front.{front_of}
 use Rattle.stream.specs.Waiting.{passed}
 use Rattle.mtdata2.specs.Packets.{packet_bytes}
 use Rattle.settings.specs.Valid.{valid}
-use Rattle.settings.specs.Factory.{factory_of}
 use Rattle.session.specs.Model.{Core, Meaning, Model, World, making}
 use Rattle.session.specs.Sending.{wake_up}
 use Rattle.session.specs.Waking.{woken}
@@ -19,7 +18,7 @@ use Rattle.session.specs.Calls.{powered, fill, too_long}
 use Rattle.session.specs.Sessions.{Event, On, Byte, Beat}
 use Rattle.session.specs.Moments.{Happening, powers, serves, ticks, Moment, frames_in, left_in, first_served, behind_first, moment_by}
 use Rattle.session.specs.Counting.{is_served, count}
-use Rattle.session.specs.Laws.{Linked, Done, does}
+use Rattle.session.specs.Laws.{Linked}
 use Rattle.session.proofs.Below.{factory_valid}
 use Rattle.session.proofs.Readings.{Read, reads, onto, Settled, settled_none, settled_filled, settled_passed, reads_filled, reads_passed}
 use Rattle.session.proofs.Calls.{Went, refused, took, answered, woke, beat, front_parts, serving}

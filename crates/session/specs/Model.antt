@@ -1,5 +1,5 @@
 -- What a unit is, over the meanings of its store and its sensor.
-use Rattle.std.specs.Prelude.{ℕ, List, [], ℤ, Some, None, Option}
+use Rattle.std.specs.Prelude.{ℕ, List, [], ℤ, None, Option}
 use Rattle.mti.specs.declared.product.Product.{Product}
 use Rattle.decision.specs.declared.states.State.{State}
 use Rattle.settings.specs.Values.{Values}

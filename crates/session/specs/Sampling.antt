@@ -1,5 +1,5 @@
 -- What a tick in Measurement sends.
-use Rattle.std.specs.Prelude.{ℕ, zero, suc, ◌+◌, ◌*◌, ◌/◌, ◌%◌, ◌^◌, Bool, true, false, cond, List, [], ◌∷◌, ◌++◌, ℤ, Some, None, Option, ◌==◌}
+use Rattle.std.specs.Prelude.{ℕ, zero, suc, ◌+◌, ◌*◌, ◌/◌, ◌%◌, Bool, cond, List, [], ◌∷◌, ◌++◌, ℤ, Some, None, Option, ◌==◌}
 use Rattle.std.specs.Option.{option_map}
 use Rattle.xbus.specs.Numbers.{be}
 use Rattle.mti.specs.declared.channel.Kind.{Kind}

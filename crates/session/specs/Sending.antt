@@ -1,5 +1,5 @@
 -- The frames that a unit sends.
-use Rattle.std.specs.Prelude.{ℕ, ◌+◌, ◌%◌, List, [], ◌∷◌, ◌++◌}
+use Rattle.std.specs.Prelude.{ℕ, ◌+◌, ◌%◌, List, [], ◌∷◌}
 use Rattle.xbus.specs.Numbers.{be}
 use Rattle.xbus.specs.Parts.{Parts}
 use Rattle.xbus.specs.Frames.{encoded}

@@ -1,8 +1,8 @@
 -- A frame that is served.
-use Rattle.std.specs.Prelude.{ℕ, ◌-◌, Bool, true, false, cond, ◌||◌, List, [], ◌∷◌, ◌++◌, Some, None, Ok, Err, Option, ◌==◌, bit_and}
+use Rattle.std.specs.Prelude.{ℕ, ◌-◌, Bool, cond, ◌||◌, List, [], ◌∷◌, ◌++◌, Some, None, Ok, Err, Option, ◌==◌, bit_and}
 use Rattle.xbus.specs.Parts.{Parts}
 use Rattle.decision.specs.declared.states.State.{State}
-use Rattle.decision.specs.declared.states.State.TheVariants.{WakeUp, Config, Measurement}
+use Rattle.decision.specs.declared.states.State.TheVariants.{Config, Measurement}
 use Rattle.decision.specs.Asked.{Asked, Changing, Baud, ErrorMode, Location, Profile, Flags, Outputs, Factory, Wake, Configure, Measure, Reset, Ask, Set}
 use Rattle.decision.specs.Decided.{Decision, decided, error_number}
 use Rattle.settings.specs.Values.{Values}

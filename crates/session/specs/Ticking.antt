@@ -1,5 +1,5 @@
 -- A tick, half a millisecond.
-use Rattle.std.specs.Prelude.{ℕ, ◌+◌, ◌%◌, ◌^◌, Bool, true, false, cond, List, [], ◌∷◌, Some, None, Option, ◌==◌, bit_and, nat_le}
+use Rattle.std.specs.Prelude.{ℕ, ◌+◌, ◌%◌, ◌^◌, Bool, cond, List, [], ◌∷◌, Some, None, Option, ◌==◌, bit_and, nat_le}
 use Rattle.mtdata2.specs.Packets.{Item}
 use Rattle.draft.specs.Composed.{frame_so_far}
 use Rattle.decision.specs.declared.states.State.{State}

@@ -1,4 +1,6 @@
 // What a unit does, and what holds of all its sessions.
+#![tactic(auto)]
+
 mod answers;
 mod laws;
 
