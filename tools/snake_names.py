@@ -30,7 +30,7 @@ OTHER = {
 
 STOP = r"\s(){}\[\].,;:λ@\"|«»!&#/"
 NAME = re.compile(rf"[^{STOP}]+")
-MANY = re.compile(r"^\s*(?:pub |abbrev |unfoldable )*(?:data |record |ruleset )?((?:[^\s(){}:;.,λ→=]+ )*[^\s(){}:;.,λ→=]+)(?:\s*[({][^)}]*[)}])*\s*:\s")
+MANY = re.compile(r"^\s*(?:pub |abbrev |unfoldable )*(?:data |record |ruleset )?((?:[^\s(){}:;.,λ→=]+ )*[^\s(){}:;.,λ→=]+)(?:\s*[({][^)}]*[)}])*\s*:(?:\s|$)")
 TOP = re.compile(r"^((?:pub |abbrev |unfoldable |private )*)(data |record |ruleset )?([^\s(){}:;.,λ]+)(.*)$")
 MADE = re.compile(r":\s*(?:goal|given|Goals|Given)\.|:\s*\S*Goals\.")
 WORDS = {"use", "pub", "mod", "open", "infix", "infixl", "infixr", "deriving", "unfolding", "import", "module", "where"}

@@ -33,10 +33,10 @@ module _ (bs : List ℕ) (k : ℕ) (xs : List ℕ) (room : slot_size * k + slot_
       get_or-take image_size (drop start (filled bs k xs)) j d i ∙ (get_or-drop start (filled bs k xs) j d ∙ filled_in j d i))
 
   -- the image copied into its part of the slot, and then the mark
-  pub filled-by-copy :
+  pub filled_by_copy :
       (ys : List ℕ) → ys ≡ xs
       → set (put_mid (slot_size * k + 1) (slot_size * k + slot_size - (slot_size * k + 1)) bs ys) (slot_size * k) 0 ≡ filled bs k xs
-  filled-by-copy ys e =
+  filled_by_copy ys e =
       let l : length ys ≡ image_size = omega (arith, ap length e) in
       same_lists _ _ (search (rules, places)) (λ j d h. grind (arith, places, get_or-set_same, cases_eq j (slot_size * k), e))
 
