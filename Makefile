@@ -16,7 +16,7 @@ quick: tools reference
 	@scripts/must-not-compile
 
 run: tools
-	@(cd crates/messages && rt run) >target/run.log 2>&1 || { cat target/run.log; exit 1; }
+	@(cd crates/messages && rt run <stdin) >target/run.log 2>&1 || { cat target/run.log; exit 1; }
 	@crates/messages/out/messages <crates/messages/stdin
 
 planted: tools

@@ -44,9 +44,12 @@ def files():
                 yield os.path.join(folder, n)
 
 
+COMMENT = re.compile(r"(?:^|(?<=\s))--(?=\s|$|-).*$")
+
+
 def code(line):
     """The line without its comment."""
-    return re.sub(r"(?:^|(?<=\s))--(?=\s|$|-).*$", "", line)
+    return COMMENT.sub("", line)
 
 
 def declared(path):
@@ -148,7 +151,11 @@ def main():
         return 0
 
     def turned(text):
-        return NAME.sub(lambda m: turn.get(m[0], m[0]), text)
+        out = []
+        for line in text.split("\n"):
+            head = code(line)
+            out.append(NAME.sub(lambda m: turn.get(m[0], m[0]), head) + line[len(head):])
+        return "\n".join(out)
 
     for p in files():
         text = open(p, encoding="utf-8").read()

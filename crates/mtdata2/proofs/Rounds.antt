@@ -28,7 +28,7 @@ size_wrong : (o : Option ℕ) (n : ℕ) → fits_by o n ≡ false → (s : ℕ) 
 size_wrong None n t = absurd (true≢false t)
 size_wrong (Some m) n t = (m, refl, eqb-false n m t)
 
--- a packet that is cut off is well_formed, and stands in front of the rest
+-- a packet that is cut off is well-formed, and stands in front of the rest
 record CutOff (h l n : ℕ) (xs : List ℕ) (q : Item × List ℕ) : Type 0 where
   pub well_formed : WellFormed q.0
   pub is : h ∷ l ∷ n ∷ xs ≡ packet_bytes q.0 ++ q.1
@@ -56,7 +56,7 @@ module _ (h l n : ℕ) (xs : List ℕ) (hb : h < 256) (lb : l < 256) (nb : n < 2
   cut_off : (q : Item × List ℕ) → Good (h * 256 + l) n xs q → CutOff h l n xs q
   cut_off q g = subst (CutOff h l n xs) (sym g.is) (cut_off_is g.inside g.fits)
 
--- a well_formed packet is cut off
+-- a well-formed packet is cut off
 cut_back : (p : ℕ) (i : Item) (rest : List ℕ) → WellFormed i → cut_of p (packet_bytes i ++ rest) ≡ Ok (i, rest)
 cut_back p i rest w =
     let id : ℕ = i.identifier in
@@ -91,7 +91,7 @@ well_formed_push (j ∷ is) i ws w = (ws.0, well_formed_push is i ws.1 w)
 
 -- xs is a data message with this content, which starts there
 module _ (xs content : List ℕ) (start : ℕ) (is : xs ≡ encoded 0xFF 0x36 content) (starts : start ≡ data_start 0xFF 0x36 (length content)) where
-  -- well_formed packets and then the rest make the content
+  -- well-formed packets and then the rest make the content
   behind : (items : List Item) (rest : List ℕ) (p : ℕ) → EachWellFormed items → content ≡ flat_map packet_bytes items ++ rest → p ≡ start + length (flat_map packet_bytes items) → Behind xs rest p
   behind items rest p w c e = record {
     items = items;
@@ -135,7 +135,7 @@ module _ (xs content : List ℕ) (start : ℕ) (is : xs ≡ encoded 0xFF 0x36 co
       (cases_Bool (size_fits i n)))
       (cases_Bool (ltb (length ys) n))
 
-  -- the rest is these well_formed packets, or a fault
+  -- the rest is these well-formed packets, or a fault
   abbrev PacketsTold : List ℕ → Result (List Item) Report → Type 0
   PacketsTold rest (Ok items) = EachWellFormed items × (flat_map packet_bytes items ≡ rest)
   PacketsTold rest (Err f) = Tells xs f

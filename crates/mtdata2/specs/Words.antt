@@ -12,7 +12,7 @@ use Rattle.mtdata2.specs.Reading.{read_of}
 
 -- ---- accepted
 
--- xs is the data message of these packets: at least one, all well_formed, and not too long for a frame
+-- xs is the data message of these packets: at least one, all well-formed, and not too long for a frame
 pub record MessageOf (xs : List ℕ) (items : List Item) : Type 0 where
   pub some : 0 < length items
   pub well_formed : EachWellFormed items
@@ -41,7 +41,7 @@ pub record Announces (xs : List ℕ) (start n : ℕ) : Type 0 where
   pub is : xs ≡ 0xFA ∷ (header_of address identifier n ++ behind)
   pub starts : start ≡ data_start address identifier n
 
--- xs is a data message whose data are well_formed packets and then, at the place p, the rest
+-- xs is a data message whose data are well-formed packets and then, at the place p, the rest
 pub record Behind (xs : List ℕ) (rest : List ℕ) (p : ℕ) : Type 0 where
   pub items : List Item
   pub well_formed : EachWellFormed items
@@ -66,7 +66,7 @@ pub data Tells (xs : List ℕ) : Report → Type 0 where
   other_identifier : (i : ℕ) (d : List ℕ) → xs ≡ encoded 0xFF i d → length d ≤ 2048 → (i ≢ 0x36) → Tells xs (report 18 layer.Message 2)
   -- no data
   no_packet : xs ≡ encoded 0xFF 0x36 [] → Tells xs (report 19 layer.Message 4)
-  -- behind well_formed packets, the next one's header is cut, its data are cut, or its size is wrong
+  -- behind well-formed packets, the next one's header is cut, its data are cut, or its size is wrong
   packet_cut : (rest : List ℕ) (p : ℕ) → Behind xs rest p → 0 < length rest → length rest < 3 → Tells xs (report 20 layer.Packet p)
   content_cut : (h l n : ℕ) (rest : List ℕ) (p : ℕ) → Behind xs (h ∷ l ∷ n ∷ rest) p → length rest < n → Tells xs (report 21 layer.Packet (p + 2))
   wrong_size : (h l n : ℕ) (rest : List ℕ) (p s : ℕ) → Behind xs (h ∷ l ∷ n ∷ rest) p → n ≤ length rest → data_size_of (h * 256 + l) ≡ Some s → (n ≢ s) → Tells xs (report 22 layer.Packet (p + 2))

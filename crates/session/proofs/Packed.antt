@@ -1,4 +1,4 @@
--- The packets of a tick: their sizes, their bytes, and that they are well_formed.
+-- The packets of a tick: their sizes, their bytes, and that they are well-formed.
 use Rattle.std.proofs.Common.{◌≡◌, ℕ, zero, suc, ◌+◌, ◌*◌, ◌<◌, ◌≤◌, false, eqb, List, [], ◌∷◌, length, ℤ, IfSome, Some, None, Option, sym, refl, ap, ◌∙◌, mod-lt, arith, lit<}
 use Rattle.std.specs.List.{flat_map, AllByRecursion}
 use Rattle.std.specs.Option.{option_map}
