@@ -1,8 +1,8 @@
 -- Big-endian numbers: one law for every width, and the steps of reading and writing byte by byte.
-use Rattle.std.proofs.Common.{◌≡◌, ℕ, zero, suc, ◌+◌, ◌-◌, ◌*◌, ◌/◌, ◌%◌, ◌^◌, ◌<◌, ◌≤◌, List, [], ◌∷◌, ◌++◌, length, get_or, take, drop, set, sym, refl, ap, ◌∙◌, mod-eq_of_lt, mul_assoc, pow-suc, div-one, add-one, arith, lit<}
+use Rattle.std.proofs.Common.{◌≡◌, ℕ, zero, suc, ◌+◌, ◌*◌, ◌/◌, ◌%◌, ◌^◌, ◌<◌, List, [], ◌∷◌, ◌++◌, length, get_or, take, set, reverse, sym, refl, ap, ◌∙◌, mod-eq_of_lt, mul_assoc, pow-suc, div-one, add-one, arith, lit<}
 use native.Mathlib.Nat.{mod-one, pow-succ', one-le-pow, mul-add-div_right, mul-add-mod_self_right, div-div-eq-div-mul}
 use lib.Arith.{mod-mul, digits_lt, digits_div}
-use Rattle.std.proofs.lemmas.List.{length_push, length-set, take_more, drop_all, drop-set}
+use Rattle.std.proofs.lemmas.List.{length_push, take_more, take_all, take_more_set, reverse-append}
 use Rattle.xbus.specs.Numbers.{Bytes, be, number_of, NumbersInverse}
 
 power : (k : ℕ) → 0 < 256 ^ k
@@ -59,36 +59,27 @@ number_push (x ∷ bs) b =
 pub number_more : (bs : List ℕ) (i : ℕ) → i < length bs → number_of (take (i + 1) bs) ≡ number_of (take i bs) * 256 + get_or bs i 0
 number_more bs i h = ap number_of (take_more bs i 0 h) ∙ number_push (take i bs) (get_or bs i 0)
 
--- ---- writing byte by byte, the last first
+-- ---- writing byte by byte, the lowest first
 
--- out holds the lowest bytes of v from i on, and r is what is still to be written
+-- the first i elements of out are the lowest bytes of v, the lowest first, and r is what is still to be written
 pub Written : ℕ → ℕ → List ℕ → ℕ → Type 0
-Written v i out r = (drop i out ≡ be (length out - i) v) × (r ≡ v / 256 ^ (length out - i))
+Written v i out r = (reverse (take i out) ≡ be i v) × (r ≡ v / 256 ^ i)
 
-pub written_none : (v : ℕ) (out : List ℕ) → Written v (length out) out v
+pub written_none : (v : ℕ) (out : List ℕ) → Written v 0 out v
 unfolding Written
-written_none v out =
-    let z : length out - length out ≡ 0 = omega arith in (
-      drop_all (length out) out (omega arith) ∙ ap (λ k. be k v) (sym z),
-      sym (div-one v) ∙ ap (λ k. v / 256 ^ k) (sym z),
+written_none v out = (refl, sym (div-one v))
+
+pub written_more : (v i : ℕ) (out : List ℕ) (r : ℕ) → i < length out → Written v i out r → Written v (i + 1) (set out i (r % 256)) (r / 256)
+unfolding Written
+written_more v i out r h w =
+    let more : suc i ≡ i + 1 = omega arith in (
+      ap reverse (take_more_set out i (r % 256) h) ∙ reverse-append (take i out) (r % 256 ∷ [])
+          ∙ (λ t. w.1 t % 256 ∷ w.0 t) ∙ ap (λ n. be n v) more,
+      ap (λ n. n / 256) w.1 ∙ div-div-eq-div-mul v (256 ^ i) 256 ∙ ap (λ n. v / n) (sym (pow-suc 256 i))
+          ∙ ap (λ n. v / 256 ^ n) more,
     )
 
-pub written_more : (v i : ℕ) (out : List ℕ) (r : ℕ) → 0 < i → i ≤ length out → Written v i out r → Written v (i - 1) (set out (i - 1) (r % 256)) (r / 256)
+pub written_all : (v i : ℕ) (out : List ℕ) (r : ℕ) → i ≡ length out → Written v i out r → reverse out ≡ be (length out) v
 unfolding Written
-written_more v i out r pos le w =
-    let k : ℕ = length out - i in
-    let l : length (set out (i - 1) (r % 256)) ≡ length out = length-set out (i - 1) (r % 256) in
-    let s : length (set out (i - 1) (r % 256)) - (i - 1) ≡ suc k = omega arith in
-    let j : i - 1 + 1 ≡ i = omega arith in
-    let first : r % 256 ≡ v / 256 ^ k % 256 = ap (λ n. n % 256) w.1 in (
-      drop-set out (i - 1) (r % 256) (omega arith) ∙ ap (λ n. r % 256 ∷ drop n out) j ∙ (λ t. first t ∷ w.0 t)
-          ∙ ap (λ n. be n v) (sym s),
-      ap (λ n. n / 256) w.1 ∙ div-div-eq-div-mul v (256 ^ k) 256 ∙ ap (λ n. v / n) (sym (pow-suc 256 k))
-          ∙ ap (λ n. v / 256 ^ n) (sym s),
-    )
-
-pub written_all : (v i : ℕ) (out : List ℕ) (r : ℕ) → i ≤ 0 → Written v i out r → out ≡ be (length out) v
-unfolding Written
-written_all v i out r z w =
-    let e : i ≡ 0 = omega arith in
-    sym (ap (λ n. drop n out) e) ∙ w.0 ∙ ap (λ n. be (length out - n) v) e ∙ ap (λ n. be n v) (omega arith)
+written_all v i out r e w =
+    ap reverse (sym (take_all i out (omega arith))) ∙ w.0 ∙ ap (λ n. be n v) e

@@ -14,13 +14,14 @@ pub fn number(bytes: &[u8]) -> u64
     n
 }
 
-// Fills `out` with the lowest bytes of a number.
+// Fills `out` with the lowest bytes of a number: the lowest first, and then the other way round.
 pub fn put_number(out: &mut [u8], value: u64)
     ensures { out.new ≡ be (length out.old) value }
 {
     let mut rest = value;
-    for i in (0..out.len()).rev() {
-        out[i] = (rest % 256) as u8;
+    for byte in out.iter_mut() {
+        *byte = (rest % 256) as u8;
         rest /= 256;
     }
+    out.reverse();
 }

@@ -3,7 +3,7 @@ ghost use Rattle.std.specs.Prelude.{◌≡◌, ◌≤◌, length};
 ghost use Rattle.std.specs.Option.{option_map};
 ghost use Rattle.xbus.specs.Parts.{around, parts_of, first_parts, seen, PartsInverse};
 
-use crate::front::{EXTENDED, Front, classify};
+use crate::front::{EXTENDED, Front, at_front};
 
 // What a frame says of itself in front of its data.
 #[derive(Clone, Copy, Debug, PartialEq)]
@@ -39,7 +39,7 @@ pub fn first_frame(bytes: &[u8]) -> Option<Frame<'_>>
     ensures value { option_map seen result ≡ first_parts bytes.now }
     ensures inverse { PartsInverse }
 {
-    match classify(bytes) {
+    match at_front(bytes) {
         Front::Whole(size) => Some(split_frame(&bytes[0..size])),
         _ => None,
     }
