@@ -1,10 +1,14 @@
 -- Lists whose elements are bytes: their elements and parts.
-use Rattle.std.proofs.Common.{ℕ, zero, suc, ◌<◌, List, [], ◌∷◌, ◌++◌, length, get_or, take, drop, replicate, arith}
+use Rattle.std.proofs.Common.{ℕ, zero, suc, ◌<◌, List, [], ◌∷◌, ◌++◌, length, get_or, take, drop, replicate, arith, Fits, w8}
 use Rattle.xbus.specs.Numbers.{Bytes}
 
 pub bytes_all : (xs : List ℕ) → ((k : ℕ) → k < length xs → get_or xs k 0 < 256) → Bytes xs
 bytes_all [] h = tt
 bytes_all (x ∷ xs) h = (h 0 (omega arith), bytes_all xs (λ k l. h (suc k) (omega arith)))
+
+-- the elements of a list of u8
+pub bytes_typed : (xs : List ℕ) → ((k : ℕ) → Fits w8 (get_or xs k 0)) → Bytes xs
+bytes_typed xs typed = bytes_all xs (λ k h. (typed k).fits)
 
 pub bytes_at : (xs : List ℕ) (i : ℕ) → Bytes xs → get_or xs i 0 < 256
 bytes_at [] i bs = omega arith

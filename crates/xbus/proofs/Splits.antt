@@ -1,6 +1,6 @@
 -- Frames and their parts are each other's inverse.
 use Rattle.std.proofs.Common.{◌≡◌, ℕ, ◌+◌, ◌-◌, ◌/◌, ◌%◌, ◌≤◌, cond, leb, List, [], ◌∷◌, ◌++◌, length, take, drop, Some, None, sym, refl, ap, ◌∙◌, subst, ⊎_elim, arith}
-use Rattle.std.proofs.lemmas.List.{length-append, length-take-le, get_or-take, take_at, drop_at}
+use Rattle.std.proofs.lemmas.List.{length-append, take_at, drop_at}
 use Rattle.std.proofs.lemmas.Bool.{lt-leb, cond-false, cases_lt}
 use Rattle.xbus.specs.declared.front.Front.{Front}
 use Rattle.xbus.specs.declared.front.Front.TheVariants.{Whole, Waits, Wrong}
@@ -9,7 +9,6 @@ use Rattle.xbus.specs.Frames.{checksum, enclosed, encoded, Frame}
 use Rattle.xbus.specs.Parts.{Parts, frame_of, around, parts_of, whole_parts, first_parts, PartsInverse}
 use Rattle.xbus.specs.Writing.{ReadsBack}
 use Rattle.xbus.proofs.Cases.{length_short, length_is_long, encoded_whole, front_said}
-use Rattle.xbus.proofs.Fronts.{front_bounded, whole_around}
 
 -- what is known of the bytes of a frame: the header tells where the data are
 record Split (xs : List ℕ) (a i : ℕ) (d : List ℕ) : Type 0 where
@@ -54,23 +53,7 @@ parts_inverse = record {
   frame_back = λ xs bs n e. frame_parts (take n xs) ((front_said xs bs).whole n e).1;
 }
 
--- ---- as the code has it, with the frame as a part from the start
-
-from_start : (n : ℕ) → n ≡ n - 0
-from_start n = omega arith
-
-pub split_room : (xs : List ℕ) (n : ℕ) → front_of xs ≡ Whole n → (5 ≤ length (take (n - 0) xs)) × (around (take (n - 0) xs) ≤ length (take (n - 0) xs))
-split_room xs n e =
-    let b = (front_bounded xs).whole n e in
-    let l = length-take-le n xs b.2 in
-    let same : around (take n xs) ≡ around xs = ap (λ k. cond (leb 255 k) 7 5) (get_or-take n xs 3 0 (omega arith)) in
-    let P : ℕ → Type 0 = λ k. (5 ≤ length (take k xs)) × (around (take k xs) ≤ length (take k xs)) in
-    subst P (from_start n) (omega (arith, b, l), omega (arith, same, whole_around xs n e, l))
-
-pub split_first : (xs : List ℕ) (n : ℕ) (p : Parts) → front_of xs ≡ Whole n → p ≡ parts_of (take (n - 0) xs) → Some p ≡ first_parts xs
-split_first xs n p e s =
-    ap Some (s ∙ ap (λ k. parts_of (take k xs)) (sym (from_start n))) ∙ ap (λ w. whole_parts w xs) (sym e)
-
+-- no whole frame stands there
 pub split_none : (xs : List ℕ) (w : Front) → w ≡ front_of xs → ((n : ℕ) → w ≡ Whole n → ⊥) → None ≡ first_parts xs
 split_none xs (Whole n) e not = absurd (not n refl)
 split_none xs Waits e not = ap (λ w. whole_parts w xs) e

@@ -1,16 +1,13 @@
 -- A frame written step by step: the header, the data, the checksum, and its place in the tray.
-use Rattle.std.proofs.Common.{◌≡◌, ℕ, ◌+◌, ◌-◌, ◌%◌, ◌<◌, ◌≤◌, ltb, List, [], ◌∷◌, ◌++◌, length, take, drop, set, Ok, Err, sym, refl, ap, ◌∙◌, ⊎_elim, arith, take-add}
-use lib.Seq.{paste}
+use Rattle.std.proofs.Common.{◌≡◌, ℕ, ◌+◌, ◌-◌, ◌%◌, ◌<◌, ◌≤◌, ltb, List, [], ◌∷◌, ◌++◌, length, take, drop, set, sym, refl, ap, ◌∙◌, ⊎_elim, arith, take-add}
 use borrow.Rule.Slice.PartMut.{put_mid}
-use Rattle.std.proofs.lemmas.List.{length-set, length-take-le, length-drop, take_all, take_more_set, drop-drop}
-use Rattle.std.proofs.lemmas.Slice.{take-put_mid, drop-put_mid, between-put_mid, put_mid-paste, between_is}
+use Rattle.std.proofs.lemmas.List.{length-set, length-take-le, length-drop, take_all, take_more_set}
+use Rattle.std.proofs.lemmas.Slice.{take-put_mid, between-put_mid, between_is}
 use Rattle.std.proofs.lemmas.Bool.{lt-ltb, le-ltb, cond-true, cond-false, cases_lt}
 use Rattle.xbus.specs.Numbers.{be}
 use Rattle.xbus.specs.Front.{total}
 use Rattle.xbus.specs.Frames.{length_bytes, header_of, checksum, enclosed, encoded}
-use Rattle.xbus.specs.Parts.{Parts, frame_of}
-use Rattle.xbus.specs.declared.writing.WriteError.TheVariants.{TooLong, NoRoom}
-use Rattle.xbus.specs.Writing.{frame_size, content_start, writing}
+use Rattle.xbus.specs.Writing.{frame_size, content_start}
 use Rattle.xbus.proofs.Cases.{length_short, length_is_long, length_enclosed}
 
 -- ---- the header
@@ -26,48 +23,19 @@ four_is (x ∷ y ∷ []) a b c d h = absurd (omega arith)
 four_is (x ∷ y ∷ z ∷ []) a b c d h = absurd (omega arith)
 four_is (x ∷ y ∷ z ∷ w ∷ xs) a b c d h = refl
 
-pub start_short : (n : ℕ) → n < 255 → content_start n ≡ 4
-start_short n l = cond-true (ltb n 255) 4 6 (lt-ltb n 255 l)
+pub header_short : (xs : List ℕ) (a i n : ℕ) → 4 ≤ length xs → n < 255 → take 4 (four xs 0xFA a i n) ≡ 0xFA ∷ header_of a i n
+header_short xs a i n h l = ap (take 4) (four_is xs 0xFA a i n h) ∙ ap (λ z. 0xFA ∷ a ∷ i ∷ z) (sym (length_short n l))
 
-pub start_long : (n : ℕ) → 255 ≤ n → content_start n ≡ 6
-start_long n l = cond-false (ltb n 255) 4 6 (le-ltb n 255 l)
-
--- what is known when r bytes of a header are written into xs
-pub record Header (a i n r : ℕ) (xs out : List ℕ) : Type 0 where
-  pub bytes : take r out ≡ 0xFA ∷ header_of a i n
-  pub rest : drop r out ≡ drop r xs
-  pub start : r ≡ content_start n
-  pub room : r + n + 1 ≡ frame_size n
-
-pub header_short : (xs : List ℕ) (a i n : ℕ) → 4 ≤ length xs → n < 255 → Header a i n 4 xs (four xs 0xFA a i n)
-header_short xs a i n h l =
-    let is = four_is xs 0xFA a i n h in
-    let t = lt-ltb n 255 l in
-    record {
-      bytes = ap (take 4) is ∙ ap (λ z. 0xFA ∷ a ∷ i ∷ z) (sym (length_short n l));
-      rest = ap (drop 4) is;
-      start = sym (cond-true (ltb n 255) 4 6 t);
-      room = let f = cond-true (ltb n 255) (n + 5) (n + 7) t in omega arith;
-    }
-
-pub header_long : (xs mid : List ℕ) (a i n : ℕ) → 6 ≤ length xs → 255 ≤ n → mid ≡ be (length (take 2 (drop 4 (four xs 0xFA a i 0xFF)))) n → Header a i n 6 xs (put_mid 4 2 (four xs 0xFA a i 0xFF) mid)
+pub header_long : (xs mid : List ℕ) (a i n : ℕ) → 6 ≤ length xs → 255 ≤ n → mid ≡ be (length (take 2 (drop 4 (four xs 0xFA a i 0xFF)))) n → take 6 (put_mid 4 2 (four xs 0xFA a i 0xFF) mid) ≡ 0xFA ∷ header_of a i n
 header_long xs mid a i n h l e =
     let ys : List ℕ = four xs 0xFA a i 0xFF in
     let is : ys ≡ 0xFA ∷ a ∷ i ∷ 0xFF ∷ drop 4 xs = four_is xs 0xFA a i 0xFF (omega arith) in
     let two : length (take 2 (drop 4 ys)) ≡ 2 =
     ap (λ l. length (take 2 (drop 4 l))) is ∙ length-take-le 2 (drop 4 xs) (omega (arith, length-drop 4 xs)) in
     let m : mid ≡ be 2 n = e ∙ ap (λ k. be k n) two in
-    let t = le-ltb n 255 l in
-    let s : length_bytes n ≡ 0xFF ∷ be 2 n = cond-false (ltb n 255) _ _ t in
-    let four_in : 4 ≤ length ys = omega (arith, ap length is) in
-    record {
-      bytes =
-          take-put_mid 4 2 ys mid 6 (omega (arith, ap length m)) four_in
-          ∙ ap (λ l. take 4 l ++ mid) is ∙ ap (λ z. 0xFA ∷ a ∷ i ∷ 0xFF ∷ z) m ∙ ap (λ z. 0xFA ∷ a ∷ i ∷ z) (sym s);
-      rest = drop-put_mid 4 2 ys mid 6 (omega arith) four_in (ap length m) ∙ ap (drop 6) is ∙ drop-drop 2 4 xs;
-      start = sym (cond-false (ltb n 255) 4 6 t);
-      room = let f = cond-false (ltb n 255) (n + 5) (n + 7) t in omega arith;
-    }
+    let s : length_bytes n ≡ 0xFF ∷ be 2 n = cond-false (ltb n 255) _ _ (le-ltb n 255 l) in
+    take-put_mid 4 2 ys mid 6 (omega (arith, ap length m)) (omega (arith, ap length is))
+    ∙ ap (λ l. take 4 l ++ mid) is ∙ ap (λ z. 0xFA ∷ a ∷ i ∷ 0xFF ∷ z) m ∙ ap (λ z. 0xFA ∷ a ∷ i ∷ z) (sym s)
 
 -- ---- the checksum behind header and data
 
@@ -108,10 +76,10 @@ content_long xs len e =
     (cases_lt len 255))
 
 -- the header was written for exactly these data
-pub sealed_frame : (xs out : List ℕ) (a i start len s : ℕ) → length xs ≡ frame_size len → length out ≡ length xs → Header a i len start xs out → s ≡ total (take (start + len - 1) (drop 1 out)) % 256 → set out (start + len) ((0 + (256 - s)) % 256) ≡ encoded a i (take len (drop (content_start len) xs))
-sealed_frame xs out a i start len s e l h t =
-    sealed xs out (header_of a i len) start len h.bytes h.rest (omega (arith, h.room)) s t
-    ∙ ap (λ k. enclosed (header_of a i len ++ take len (drop k xs))) h.start
+pub sealed_frame : (xs out : List ℕ) (a i start len s : ℕ) → take start out ≡ 0xFA ∷ header_of a i len → drop start out ≡ drop start xs → start ≡ content_start len → start + len + 1 ≡ frame_size len → length xs ≡ frame_size len → length out ≡ length xs → s ≡ total (take (start + len - 1) (drop 1 out)) % 256 → set out (start + len) ((0 + (256 - s)) % 256) ≡ encoded a i (take len (drop (content_start len) xs))
+sealed_frame xs out a i start len s header rest is room e l t =
+    sealed xs out (header_of a i len) start len header rest (omega (arith, room)) s t
+    ∙ ap (λ k. enclosed (header_of a i len ++ take len (drop k xs))) is
     ∙ ap (λ k. enclosed (header_of a i k ++ take len (drop (content_start len) xs))) (sym (content_long xs len e))
 
 -- data that are copied to their place stand there
@@ -139,14 +107,3 @@ encoded_size a i d h =
     let f = cond-false (ltb n 255) (n + 5) (n + 7) (le-ltb n 255 l) in
     omega arith)
     (cases_lt n 255)
-
-pub placed : (tray out : List ℕ) (at size : ℕ) (p : Parts) → length p.content ≤ 2048 → size ≡ frame_size (length p.content) → out ≡ frame_of p → put_mid at (at + size - at) tray out ≡ paste tray at (frame_of p) size
-placed tray out at size p h s e =
-    put_mid-paste at (at + size - at) tray out (frame_of p) size e (omega arith)
-    (s ∙ sym (encoded_size p.address p.identifier p.content h))
-
-pub accepted : (room at n size : ℕ) → n ≤ 2048 → size ≡ frame_size n → at + size ≤ room → Ok size ≡ writing room at n
-accepted room at n size h s fits =
-    ap Ok s
-    ∙ sym (cond-false (ltb room (at + frame_size n)) (Err NoRoom) _ (le-ltb room (at + frame_size n) (omega arith)))
-    ∙ sym (cond-false (ltb 2048 n) (Err TooLong) _ (le-ltb 2048 n h))

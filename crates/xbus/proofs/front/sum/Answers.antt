@@ -1,6 +1,4 @@
-use Rattle.std.proofs.Common.{ap, arith, rules, below_more}
-use Rattle.std.proofs.lemmas.List.{take_all}
-use Rattle.xbus.specs.Front.{total}
+use Rattle.std.proofs.Common.{arith, rules, below_more}
 use Rattle.xbus.proofs.Bytes.{bytes_all}
 use Rattle.xbus.proofs.Totals.{total_more}
 use Rattle.xbus.proofs.front.sum.Goals as goal
@@ -11,8 +9,5 @@ loop-byte-preserved c = (
   below_more _ _ c.loop-byte.invariant.1 (omega arith),
 )
 
-pub returns : goal.returns
-returns c = record {
-  value = omega (arith, ap total (take_all c.loop-byte.byte-index c.args.part.now (omega arith)));
-  bytes = bytes_all c.args.part.now (λ k h. c.loop-byte.invariant.1 k (search rules));
-}
+pub returns-clause-bytes : goal.returns-clause-bytes
+returns-clause-bytes c = bytes_all c.args.part.now (λ k h. c.loop-byte.invariant.1 k (search rules))
