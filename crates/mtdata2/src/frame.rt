@@ -30,16 +30,10 @@ fn read_body(
     ensures { seen_body result ≡ body_of address identifier start size input.now }
 {
     if input.len() != start + size + 1 {
-        return Err(Fault {
-            reason: Reason::WrongLength,
-            place: input.len(),
-        });
+        return Err(Reason::WrongLength.at(input.len()));
     }
     if sum(&input[1..]) != 0 {
-        return Err(Fault {
-            reason: Reason::WrongChecksum,
-            place: input.len() - 1,
-        });
+        return Err(Reason::WrongChecksum.at(input.len() - 1));
     }
     Ok(Body {
         address,
@@ -58,17 +52,11 @@ pub(crate) fn read_frame(input: &[u8]) -> Result<Body<'_>, Fault>
         | [START, _]
         | [START, _, _]
         | [START, _, _, EXTENDED]
-        | [START, _, _, EXTENDED, _] => Err(Fault {
-            reason: Reason::WrongLength,
-            place: input.len(),
-        }),
+        | [START, _, _, EXTENDED, _] => Err(Reason::WrongLength.at(input.len())),
         [START, address, identifier, EXTENDED, high, low, ..] => {
             let size = usize::from(u16::from_be_bytes([*high, *low]));
             if !(255..=MOST_DATA).contains(&size) {
-                return Err(Fault {
-                    reason: Reason::LengthRuledOut,
-                    place: 4,
-                });
+                return Err(Reason::LengthRuledOut.at(4));
             }
             read_body(input, *address, *identifier, 6, size)
         }
@@ -79,9 +67,6 @@ pub(crate) fn read_frame(input: &[u8]) -> Result<Body<'_>, Fault>
             4,
             usize::from(*size),
         ),
-        _ => Err(Fault {
-            reason: Reason::NoStart,
-            place: 0,
-        }),
+        _ => Err(Reason::NoStart.at(0)),
     }
 }

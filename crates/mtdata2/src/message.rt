@@ -24,22 +24,13 @@ fn read_message(input: &[u8]) -> Result<Body<'_>, Fault>
 {
     let body = read_frame(input)?;
     if body.address != DATA_ADDRESS {
-        return Err(Fault {
-            reason: Reason::NotDataMessage,
-            place: 1,
-        });
+        return Err(Reason::NotDataMessage.at(1));
     }
     if body.identifier != DATA_IDENTIFIER {
-        return Err(Fault {
-            reason: Reason::NotDataMessage,
-            place: 2,
-        });
+        return Err(Reason::NotDataMessage.at(2));
     }
     if body.content.is_empty() {
-        return Err(Fault {
-            reason: Reason::NoPacket,
-            place: body.start,
-        });
+        return Err(Reason::NoPacket.at(body.start));
     }
     Ok(body)
 }

@@ -1,10 +1,13 @@
-use Rattle.std.proofs.Common.{refl}
+use Rattle.std.proofs.Common.{refl, ap, ◌∙◌}
+use Rattle.std.specs.Prelude.{Err}
+use Rattle.mtdata2.specs.Faults.{reported}
 use Rattle.mtdata2.proofs.Frames.{body_unsealed, body_sealed}
 use Rattle.mtdata2.proofs.frame.read_body.Goals as goal
 
 pub returns-then-sum-ne0 : goal.returns-then-sum-ne0
 returns-then-sum-ne0 c =
-    body_unsealed c.args.address c.args.identifier c.args.start c.args.size c.args.input.now c.sum.result
+    ap (λ f. Err (reported f)) c.at-then-sum-ne0.ensures
+    ∙ body_unsealed c.args.address c.args.identifier c.args.start c.args.size c.args.input.now c.sum.result
     c.if-input-start.false c.sum.ensures.value c.if-sum-ne0.true
 
 pub returns : goal.returns
