@@ -65,6 +65,7 @@ fn packet_of(identifier: u16, content: &[u8]) -> Packet<'_>
 }
 
 // The packet at the front of `rest`, which stands at `place`, and what is behind it.
+// Form: place and rest are two parameters, since `next_packet` hands on the rest alone.
 fn cut(rest: &[u8], place: usize) -> Result<(Packet<'_>, &[u8]), Fault>
     requires { place + length rest.now < 2 ^ 64 }
     ensures { seen_cut result ≡ cut_of place rest.now }
