@@ -1,5 +1,5 @@
 -- What a tray holds for a draft: with a packet more, and when it is closed.
-use Rattle.std.proofs.Common.{◌≡◌, ℕ, ◌+◌, ◌-◌, ◌<◌, ◌≤◌, ltb, List, [], ◌∷◌, ◌++◌, length, take, drop, Ok, Err, sym, refl, ap, ◌∙◌, ⊎_elim, arith}
+use Rattle.std.proofs.Common.{◌≡◌, ℕ, ◌+◌, ◌-◌, ◌<◌, ◌≤◌, ltb, List, [], ◌∷◌, ◌++◌, length, take, drop, Ok, sym, refl, ap, ◌∙◌, ⊎_elim, arith}
 use lib.Seq.{paste}
 use Rattle.std.specs.List.{flat_map}
 use Rattle.std.proofs.lemmas.List.{append_assoc, length-append, length-take-le, take_at, take-take, take_all, drop_at, drop-drop, flat_map_more}
@@ -14,26 +14,9 @@ use Rattle.mtdata2.specs.Words.{MessageOf}
 use Rattle.mtdata2.proofs.Frames.{frame_parts}
 use Rattle.mtdata2.proofs.Rounds.{accepts, well_formed_push}
 use Rattle.draft.specs.declared.draft.Draft.{Draft}
-use Rattle.draft.specs.declared.refusal.Refusal.TheVariants.{NoPacket}
 use Rattle.draft.specs.Composed.{frame_so_far, grown, content_in, laid, Holding, Added, Closed}
 
 -- ---- closed
-
-no_bytes : (items : List Item) → length (flat_map packet_bytes items) ≡ 0 → items ≡ []
-no_bytes [] e = refl
-no_bytes (i ∷ is) e = absurd (omega arith)
-
-module _ (items : List Item) (tray : List ℕ) (d : Draft) (h : Holding items tray d) where
-  pub closed_empty : d.lot.size.len ≡ 0 → Closed items tray d (Err NoPacket)
-  closed_empty z =
-      let none : items ≡ [] = no_bytes items (sym h.sized ∙ z) in
-      let no_items : (0 < length items) → ⊥ = λ l. omega (arith, ap length none) in
-      record {
-        refused = λ e. refl;
-        accepted = λ l. absurd (no_items l);
-        message = λ l. absurd (no_items l);
-        reads = λ l. absurd (no_items l);
-      }
 
 -- the bytes from the start to the mark are the message
 message_there : (items : List Item) (tray : List ℕ) (d : Draft) → Holding items tray d → 0 < length items → MessageOf (take (d.mark.now - d.lot.start) (drop d.lot.start tray)) items
