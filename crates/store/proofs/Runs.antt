@@ -1,15 +1,8 @@
--- The used slots are the longest run from the front with mark 00, and the image held has its size.
-use Rattle.std.proofs.Common.{◌≡◌, ℕ, zero, suc, ◌+◌, ◌-◌, ◌*◌, ◌<◌, ◌≤◌, eqb, List, length, drop, Some, None, refl, ap, arith}
-use Rattle.std.proofs.lemmas.List.{length-take, length-drop}
+-- The used slots are the longest run from the front with mark 00.
+use Rattle.std.proofs.Common.{◌≡◌, ℕ, zero, suc, ◌+◌, ◌<◌, ◌≤◌, eqb, List, refl, ap, arith}
 use Rattle.std.proofs.lemmas.Bool.{eqb-true, eqb-false, eq-eqb, ne_eqb, cond_both}
-use Rattle.store.specs.Meaning.{image_size, ImageOrNone}
-use Rattle.store.specs.Slots.{slot_size, slots, mark_at, image_at, zeros, used, held_in, LongestRun, UsedSaid}
-
-zeros_within : (f : ℕ → ℕ) (n : ℕ) → zeros f n ≤ n
-zeros_within f zero = omega arith
-zeros_within f (suc n) =
-    cond_both (eqb (f 0) 0) (suc (zeros (λ k. f (suc k)) n)) zero (λ x. x ≤ suc n)
-    (λ e. omega (arith, zeros_within (λ k. f (suc k)) n)) (λ e. omega arith)
+use Rattle.store.specs.Slots.{slots, mark_at, zeros, used, LongestRun, UsedSaid}
+use Rattle.store.specs.Held.{zeros_within}
 
 zeros_are_zero : (f : ℕ → ℕ) (n k : ℕ) → k < zeros f n → f k ≡ 0
 zeros_are_zero f zero k h = absurd (omega arith)
@@ -44,13 +37,3 @@ used_only bs n r = zeros_only (mark_at bs) (slots bs) n r.within r.marked r.ends
 
 pub used_said : (bs : List ℕ) → UsedSaid bs
 used_said bs = record { run = used_run bs; only = used_only bs }
-
--- a whole slot has a whole image
-length_image : (bs : List ℕ) (k : ℕ) → k < slots bs → length (image_at bs k) ≡ image_size
-length_image bs k h = omega (arith, length-take image_size (drop (slot_size * k + 1) bs), length-drop (slot_size * k + 1) bs)
-
-pub held_sized : (bs : List ℕ) → ImageOrNone (held_in bs)
-unfolding held_in
-held_sized bs =
-    cond_both (eqb (used bs) 0) None (Some (image_at bs (used bs - 1))) ImageOrNone (λ _. tt)
-    (λ e. length_image bs (used bs - 1) (let u = (used_run bs).within in let ne = eqb-false (used bs) 0 e in omega arith))

@@ -1,7 +1,8 @@
 // A store over lent memory, which is cut into slots that are each written once.
 ghost use Rattle.std.specs.Prelude.{◌≡◌, length};
-ghost use Rattle.store.specs.Meaning.{ImageOrNone, load_answer, buffer_after, save_answer, held_after, left_after};
+ghost use Rattle.store.specs.Meaning.{load_answer, buffer_after, save_answer, held_after, left_after};
 ghost use Rattle.store.specs.Slots.{used, held_in, left_in, saved, bytes_after, rest, UsedSaid};
+ghost use Rattle.store.specs.Held.{image_or_none_in};
 
 use crate::port::{Loaded, Store, StoreError};
 use crate::slots::{left_in, load_from, save_to, used_slots};
@@ -47,13 +48,14 @@ impl Store for Page<'_> {
 
     ghost overwritten = { saved };
 
+    ghost image_or_none = { λ s. image_or_none_in s.bytes.now };
+
     fn load(&mut self, buf: &mut [u8]) -> Result<Loaded, StoreError>
         ensures answer { result ≡ load_answer (length buf.old) (held_in self.old.bytes.now) }
         ensures buffer { buf.new ≡ buffer_after buf.old (held_in self.old.bytes.now) }
         ensures held { held_in self.new.bytes.now ≡ held_in self.old.bytes.now }
         ensures left { left_in self.new.bytes.now ≡ left_in self.old.bytes.now }
         ensures memory { self.new.bytes.now ≡ self.old.bytes.now }
-        ensures meant { ImageOrNone (held_in self.old.bytes.now) }
         ensures lent { self.new.bytes.ghost_name ≡ self.old.bytes.ghost_name }
     {
         load_from(self.bytes, buf)
@@ -64,7 +66,6 @@ impl Store for Page<'_> {
         ensures held { held_in self.new.bytes.now ≡ held_after image.now (left_in self.old.bytes.now) (held_in self.old.bytes.now) }
         ensures left { left_in self.new.bytes.now ≡ left_after image.now (left_in self.old.bytes.now) }
         ensures memory { self.new.bytes.now ≡ bytes_after image.now self.old.bytes.now }
-        ensures meant { ImageOrNone (held_in self.old.bytes.now) }
         ensures rest { rest self.new.bytes.now ≡ rest self.old.bytes.now }
         ensures lent { self.new.bytes.ghost_name ≡ self.old.bytes.ghost_name }
     {
@@ -73,7 +74,6 @@ impl Store for Page<'_> {
 
     fn writes_left(&self) -> u64
         ensures value { result ≡ left_in self.now.bytes.now }
-        ensures meant { ImageOrNone (held_in self.now.bytes.now) }
     {
         left_in(self.bytes) as u64
     }

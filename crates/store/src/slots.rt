@@ -1,6 +1,6 @@
 // Memory that is cut into slots: a mark byte and an image.
 ghost use Rattle.std.specs.Prelude.{◌≡◌, ◌<◌, ◌≤◌, length};
-ghost use Rattle.store.specs.Meaning.{image_size, ImageOrNone, load_answer, buffer_after, save_answer, held_after, left_after};
+ghost use Rattle.store.specs.Meaning.{image_size, load_answer, buffer_after, save_answer, held_after, left_after};
 ghost use Rattle.store.specs.Slots.{slots, used, held_in, left_in, fenced, filled, bytes_after, rest, UsedSaid};
 
 use crate::port::{IMAGE, Loaded, StoreError};
@@ -16,7 +16,6 @@ pub(crate) fn used_slots(bytes: &[u8]) -> usize
     ensures value { result ≡ used bytes.now }
     ensures within { result ≤ slots bytes.now }
     ensures said { UsedSaid bytes.now }
-    ensures meant { ImageOrNone (held_in bytes.now) }
 {
     let slots = bytes.len() / SLOT;
     for k in 0..slots {
@@ -29,7 +28,6 @@ pub(crate) fn used_slots(bytes: &[u8]) -> usize
 
 pub(crate) fn left_in(bytes: &[u8]) -> usize
     ensures value { result ≡ left_in bytes.now }
-    ensures meant { ImageOrNone (held_in bytes.now) }
 {
     bytes.len() / SLOT - used_slots(bytes)
 }
@@ -57,7 +55,6 @@ pub(crate) fn load_from(bytes: &mut [u8], buf: &mut [u8]) -> Result<Loaded, Stor
     ensures answer { result ≡ load_answer (length buf.old) (held_in bytes.old) }
     ensures buffer { buf.new ≡ buffer_after buf.old (held_in bytes.old) }
     ensures bytes { bytes.new ≡ bytes.old }
-    ensures meant { ImageOrNone (held_in bytes.old) }
 {
     let used = used_slots(bytes);
     if buf.len() != IMAGE {
@@ -77,7 +74,6 @@ pub(crate) fn save_to(bytes: &mut [u8], image: &[u8]) -> Result<(), StoreError>
     ensures left { left_in bytes.new ≡ left_after image.now (left_in bytes.old) }
     ensures bytes { bytes.new ≡ bytes_after image.now bytes.old }
     ensures rest { rest bytes.new ≡ rest bytes.old }
-    ensures meant { ImageOrNone (held_in bytes.old) }
 {
     let used = used_slots(bytes);
     if image.len() != IMAGE {

@@ -16,7 +16,6 @@ returns-then-used-eq0 c =
       answer = sym (sized_answer b (held_in bs) long ∙ ap (λ o. Ok (found o)) h);
       buffer = sym (sized_buffer b (held_in bs) long ∙ ap (λ o. unwrap_or o b) h);
       bytes = refl;
-      meant = c.used_slots-used.ensures.meant;
     }
 
 pub returns : goal.returns
@@ -35,5 +34,4 @@ returns c =
           ∙ (ap (λ k. take k (drop at bs)) size ∙ (ap (λ n. image_at bs (n - 1)) used
           ∙ sym (sized_buffer b (held_in bs) long ∙ ap (λ o. unwrap_or o b) h)));
       bytes = refl;
-      meant = c.used_slots-used.ensures.meant;
     }

@@ -17,7 +17,6 @@ returns-then-image-ne-IMAGE c =
       left = sym (refused_left xs (left_in bs) e);
       bytes = sym (refused_memory xs (left_in bs) e saved bs);
       rest = refl;
-      meant = c.used_slots-used.ensures.meant;
     }
 
 pub returns-then-used-bytes : goal.returns-then-used-bytes
@@ -32,7 +31,6 @@ returns-then-used-bytes c =
       left = sym (refused_left xs (left_in bs) e);
       bytes = sym (refused_memory xs (left_in bs) e saved bs);
       rest = refl;
-      meant = c.used_slots-used.ensures.meant;
     }
 
 pub returns : goal.returns
@@ -50,5 +48,4 @@ returns c =
       left = ap left_in s ∙ saved_left xs bs room long;
       bytes = s ∙ saved_bytes xs bs room long;
       rest = ap rest s ∙ rest_saved xs bs room long;
-      meant = c.used_slots-used.ensures.meant;
     }
