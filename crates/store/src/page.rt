@@ -1,11 +1,13 @@
 // A store over lent memory, which is cut into slots that are each written once.
 ghost use Rattle.std.specs.Prelude.{◌≡◌, length};
+ghost use Rattle.std.specs.Option.{option_copied};
 ghost use Rattle.store.specs.Meaning.{load_answer, buffer_after, save_answer, held_after, left_after};
 ghost use Rattle.store.specs.Slots.{used, held_in, left_in, saved, bytes_after, rest, UsedSaid};
 ghost use Rattle.store.specs.Held.{image_or_none_in};
 
-use crate::port::{Loaded, Store, StoreError};
-use crate::slots::{left_in, load_from, save_to, used_slots};
+use crate::image::hand_out;
+use crate::port::{IMAGE, Loaded, Store, StoreError};
+use crate::slots::{held_image, left_in, save_to, used_slots};
 
 #[derive(Drop)]
 pub struct Page<'a> {
@@ -37,6 +39,12 @@ impl<'a> Page<'a> {
         let Page { bytes } = self;
         bytes
     }
+
+    fn held_image(&self) -> Option<&[u8; IMAGE]>
+        ensures { option_copied result ≡ held_in self.now.bytes.now }
+    {
+        held_image(self.bytes)
+    }
 }
 
 impl Store for Page<'_> {
@@ -58,7 +66,7 @@ impl Store for Page<'_> {
         ensures memory { self.new.bytes.now ≡ self.old.bytes.now }
         ensures lent { self.new.bytes.ghost_name ≡ self.old.bytes.ghost_name }
     {
-        load_from(self.bytes, buf)
+        hand_out(self.held_image(), buf)
     }
 
     fn save(&mut self, image: &[u8]) -> Result<(), StoreError>
