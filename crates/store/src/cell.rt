@@ -34,12 +34,10 @@ impl Store for Cell {
     }
 
     fn save(&mut self, image: &[u8]) -> Result<(), StoreError> {
-        let image = image.as_array().ok_or(StoreError::WrongLength)?;
-        self.rating = self
-            .rating
-            .checked_sub(1)
-            .ok_or(StoreError::NoWritesLeft)?;
+        let image = image.as_array::<IMAGE>().ok_or(StoreError::WrongLength)?;
+        let left = self.rating.checked_sub(1).ok_or(StoreError::NoWritesLeft)?;
         self.kept = Some(*image);
+        self.rating = left;
         Ok(())
     }
 

@@ -80,9 +80,7 @@ impl Store for Page<'_> {
         save_to(self.bytes, image)
     }
 
-    fn writes_left(&self) -> u64
-        ensures value { result ≡ left_in self.now.bytes.now }
-    {
+    fn writes_left(&self) -> u64 {
         left_in(self.bytes) as u64
     }
 }

@@ -1,9 +1,8 @@
 // Memory that is cut into slots: a mark byte and an image.
 ghost use Rattle.std.specs.Prelude.{◌≡◌, ◌<◌, ◌≤◌, length};
 ghost use Rattle.std.specs.Option.{option_copied};
-ghost use Rattle.std.specs.Simd.{first_chunks};
 ghost use Rattle.store.specs.Meaning.{save_answer, held_after, left_after};
-ghost use Rattle.store.specs.Slots.{slot_size, slots, used, held_in, left_in, fenced, filled, bytes_after, rest, UsedSaid};
+ghost use Rattle.store.specs.Slots.{slots, slots_of, used, held_in, left_in, fenced, filled, bytes_after, rest, UsedSaid};
 
 use crate::port::{IMAGE, StoreError};
 
@@ -16,7 +15,7 @@ const UNUSED: u8 = 0xFF;
 
 // The slots, without the bytes that are in none.
 fn slots_of(bytes: &[u8]) -> &[[u8; SLOT]]
-    ensures cut { result.now ≡ first_chunks slot_size (slots bytes.now) bytes.now }
+    ensures cut { result.now ≡ slots_of bytes.now }
     ensures count { length result.now ≡ slots bytes.now }
 {
     bytes.as_chunks().0
@@ -74,7 +73,7 @@ pub(crate) fn save_to(bytes: &mut [u8], image: &[u8]) -> Result<(), StoreError>
     ensures bytes { bytes.new ≡ bytes_after image.now bytes.old }
     ensures rest { rest bytes.new ≡ rest bytes.old }
 {
-    let image = image.as_array().ok_or(StoreError::WrongLength)?;
+    let image = image.as_array::<IMAGE>().ok_or(StoreError::WrongLength)?;
     let used = used_slots(bytes);
     if used == slots_of(bytes).len() {
         return Err(StoreError::NoWritesLeft);

@@ -1,7 +1,7 @@
 -- The last used slot ends with the image that is held.
-use Rattle.std.proofs.Common.{◌≡◌, sym, ap, ◌∙◌}
+use Rattle.std.proofs.Common.{sym, ap, ◌∙◌}
 use Rattle.std.specs.Option.{option_copied}
-use Rattle.store.proofs.Cut.{none_held, some_held}
+use Rattle.store.proofs.Last.{none_held, some_held}
 use Rattle.store.proofs.slots.held_image.Goals as goal
 
 pub returns-in_err-slot : goal.returns-in_err-slot

@@ -2,7 +2,7 @@
 use Rattle.std.proofs.Common.{◌≡◌, ◌<◌, length, sym, refl, ap, ◌∙◌, arith, rules}
 use Rattle.store.specs.Meaning.{image_size}
 use Rattle.store.specs.Slots.{used, slots, held_in, left_in, filled, saved, rest}
-use Rattle.store.proofs.Meanings.{accepted_answer, refuses_length, refuses_none, none_answer, refused_held, refused_left, refused_memory}
+use Rattle.store.proofs.Meanings.{accepted_answer, refuses_none, none_answer, refused_held, refused_left, refused_memory}
 use Rattle.store.proofs.Calls.{saved_held, saved_left, saved_bytes, saved_by_steps}
 use Rattle.store.proofs.Writes.{rest_saved}
 use Rattle.store.proofs.slots.save_to.Goals as goal
