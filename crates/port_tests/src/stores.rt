@@ -5,38 +5,22 @@ ghost use Rattle.store.specs.Slots.{bytes_after};
 use std::process::Abort;
 use store::{Cell, IMAGE, Loaded, Page, Store, StoreError, try_store};
 
-// 0, or the number of the refusal.
-fn saving(answer: Result<(), StoreError>) -> u8 {
-    match answer {
-        Ok(()) => 0,
-        Err(error) => error.number(),
-    }
-}
-
-// 1 for an image, 0 for none, or the number of the refusal.
-fn loading(answer: Result<Loaded, StoreError>) -> u8 {
-    match answer {
-        Ok(Loaded::Held) => 1,
-        Ok(Loaded::None) => 0,
-        Err(error) => error.number(),
-    }
-}
-
 // The page over the memory has so many used slots and writes left, and holds an image exactly if a slot is used.
 fn page_is(rt: &impl Abort, memory: &mut [u8], used: usize, left: u64) {
     let mut buf = [0u8; IMAGE];
     let mut page = Page::over(memory);
     assert_eq!(rt; page.used(), used);
     assert_eq!(rt; page.writes_left(), left);
-    assert_eq!(rt; loading(page.load(&mut buf)) == 1, used > 0);
+    let found = if used > 0 { Loaded::Held } else { Loaded::None };
+    assert_eq!(rt; page.load(&mut buf), Ok(found));
 }
 
 // What the owner of the memory knows once the page is gone: every byte.
-fn save_over(memory: &mut [u8], image: &[u8]) -> u8
+fn save_over(memory: &mut [u8], image: &[u8]) -> Result<(), StoreError>
     ensures { memory.new ≡ bytes_after image.now memory.old }
 {
     let mut page = Page::over(memory);
-    saving(page.save(image))
+    page.save(image)
 }
 
 // The same where the page gives the memory back.
@@ -64,7 +48,10 @@ fn pages_of_zeros_are_used_up(rt: HostRuntime) {
     page_is(&rt, &mut [0; 281], 1, 0);
     page_is(&rt, &mut [0; 282], 2, 0);
     let mut memory = [0u8; 282];
-    assert_eq!(rt; save_over(&mut memory, &[9; IMAGE]), 7);
+    assert_eq!(rt;
+        save_over(&mut memory, &[9; IMAGE]),
+        Err(StoreError::NoWritesLeft)
+    );
     assert_eq!(rt; memory[1], 0);
 }
 
@@ -73,7 +60,7 @@ fn marks_behind_a_gap_count_for_nothing(rt: HostRuntime) {
     let mut memory = [0u8; 423];
     memory[0] = 0xFF;
     page_is(&rt, &mut memory, 0, 3);
-    assert_eq!(rt; save_over(&mut memory, &[7; IMAGE]), 0);
+    assert_eq!(rt; save_over(&mut memory, &[7; IMAGE]), Ok(()));
     assert_eq!(rt; memory[0], 0x00);
     assert_eq!(rt; memory[1], 7);
     assert_eq!(rt; memory[140], 7);
@@ -86,14 +73,17 @@ fn marks_behind_a_gap_count_for_nothing(rt: HostRuntime) {
 #[test]
 fn bytes_left_over_stay(rt: HostRuntime) {
     let mut memory = [0x55u8; 285];
-    assert_eq!(rt; save_over(&mut memory, &[1; IMAGE]), 0);
+    assert_eq!(rt; save_over(&mut memory, &[1; IMAGE]), Ok(()));
     assert_eq!(rt; memory[141], 0xFF);
-    assert_eq!(rt; save_over(&mut memory, &[2; IMAGE]), 0);
+    assert_eq!(rt; save_over(&mut memory, &[2; IMAGE]), Ok(()));
     assert_eq!(rt; memory[141], 0x00);
     assert_eq!(rt; memory[142], 2);
     assert_eq!(rt; memory[281], 2);
     assert_eq!(rt; memory[282], 0x55);
-    assert_eq!(rt; save_over(&mut memory, &[3; IMAGE]), 7);
+    assert_eq!(rt;
+        save_over(&mut memory, &[3; IMAGE]),
+        Err(StoreError::NoWritesLeft)
+    );
     assert_eq!(rt; memory[142], 2);
 }
 
@@ -102,12 +92,18 @@ fn wrong_lengths_come_first(rt: HostRuntime) {
     let mut buf = [0x33u8; 141];
     let mut memory = [0u8; 282];
     let mut page = Page::over(&mut memory);
-    assert_eq!(rt; loading(page.load(&mut buf)), 6);
-    assert_eq!(rt; saving(page.save(&buf)), 6);
+    assert_eq!(rt; page.load(&mut buf), Err(StoreError::WrongLength));
+    assert_eq!(rt; page.save(&buf), Err(StoreError::WrongLength));
     let mut cell = Cell::new(0);
-    assert_eq!(rt; saving(cell.save(&buf)), 6);
-    assert_eq!(rt; loading(cell.load(&mut buf)), 6);
+    assert_eq!(rt; cell.save(&buf), Err(StoreError::WrongLength));
+    assert_eq!(rt; cell.load(&mut buf), Err(StoreError::WrongLength));
     assert_eq!(rt; buf[0], 0x33);
+}
+
+#[test]
+fn refusals_bear_6_and_7(rt: HostRuntime) {
+    assert_eq!(rt; StoreError::WrongLength.number(), 6);
+    assert_eq!(rt; StoreError::NoWritesLeft.number(), 7);
 }
 
 #[test]
@@ -115,14 +111,14 @@ fn cells_of_rating_0_and_1(rt: HostRuntime) {
     let mut buf = [0x33u8; IMAGE];
     let mut none = Cell::new(0);
     assert_eq!(rt; none.writes_left(), 0);
-    assert_eq!(rt; saving(none.save(&[1; IMAGE])), 7);
-    assert_eq!(rt; loading(none.load(&mut buf)), 0);
+    assert_eq!(rt; none.save(&[1; IMAGE]), Err(StoreError::NoWritesLeft));
+    assert_eq!(rt; none.load(&mut buf), Ok(Loaded::None));
     assert_eq!(rt; buf[0], 0x33);
     let mut one = Cell::new(1);
-    assert_eq!(rt; saving(one.save(&[1; IMAGE])), 0);
+    assert_eq!(rt; one.save(&[1; IMAGE]), Ok(()));
     assert_eq!(rt; one.writes_left(), 0);
-    assert_eq!(rt; saving(one.save(&[2; IMAGE])), 7);
-    assert_eq!(rt; loading(one.load(&mut buf)), 1);
+    assert_eq!(rt; one.save(&[2; IMAGE]), Err(StoreError::NoWritesLeft));
+    assert_eq!(rt; one.load(&mut buf), Ok(Loaded::Held));
     assert_eq!(rt; buf[139], 1);
 }
 
@@ -132,13 +128,13 @@ fn the_last_image_saved_is_loaded(rt: HostRuntime) {
     let mut memory = [0xFFu8; 282];
     let mut page = Page::over(&mut memory);
     let trial = try_store(&mut page, &[1; IMAGE], &[2; IMAGE], &mut buf);
-    assert_eq!(rt; saving(trial.first), 0);
-    assert_eq!(rt; saving(trial.second), 0);
-    assert_eq!(rt; loading(trial.loaded), 1);
+    assert_eq!(rt; trial.first, Ok(()));
+    assert_eq!(rt; trial.second, Ok(()));
+    assert_eq!(rt; trial.loaded, Ok(Loaded::Held));
     assert_eq!(rt; buf[0], 2);
     let bytes = save_and_return(page.into_bytes(), &[3; IMAGE]);
     assert_eq!(rt; bytes.len(), 282);
     let trial = try_store(&mut Cell::new(1), &[4; IMAGE], &[5; IMAGE], &mut buf);
-    assert_eq!(rt; saving(trial.second), 7);
+    assert_eq!(rt; trial.second, Err(StoreError::NoWritesLeft));
     assert_eq!(rt; buf[0], 4);
 }

@@ -3,35 +3,29 @@ ghost use Rattle.std.specs.Prelude.{◌≡◌};
 ghost use Rattle.session.specs.Answers.{number_of};
 
 // Why a call is refused: by its embedding program's doing, and everything stays.
-#[derive(Clone, Copy)]
+#[derive(Clone, Copy, PartialEq, Debug)]
 pub enum Refusal {
     // the unit is not powered
-    Dark,
-    AlreadyPowered,
+    Dark = 1,
+    AlreadyPowered = 2,
     // the tray has fewer than 2,055 bytes
-    ShortTray,
+    ShortTray = 3,
     // a whole frame waits to be served
-    FrameWaits,
+    FrameWaits = 4,
     // the data message would have more than 2,048 data bytes
-    TooLong,
+    TooLong = 5,
 }
 
 impl Refusal {
     pub fn number(&self) -> u8
         ensures { result ≡ number_of self.now }
     {
-        match self {
-            Refusal::Dark => 1,
-            Refusal::AlreadyPowered => 2,
-            Refusal::ShortTray => 3,
-            Refusal::FrameWaits => 4,
-            Refusal::TooLong => 5,
-        }
+        *self as u8
     }
 }
 
 // What a feed did.
-#[derive(Clone, Copy)]
+#[derive(Clone, Copy, PartialEq, Debug)]
 pub struct Fed {
     // bytes taken
     pub taken: usize,

@@ -1,5 +1,7 @@
 pub mod Meanings
+pub mod Cut
 pub mod Runs
 pub mod Writes
 pub mod Calls
+pub mod Last
 pub mod Trials

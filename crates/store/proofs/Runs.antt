@@ -1,56 +1,32 @@
--- The used slots are the longest run from the front with mark 00, and the image held has its size.
-use Rattle.std.proofs.Common.{◌≡◌, ℕ, zero, suc, ◌+◌, ◌-◌, ◌*◌, ◌<◌, ◌≤◌, eqb, List, length, drop, Some, None, refl, ap, arith}
-use Rattle.std.proofs.lemmas.List.{length-take, length-drop}
-use Rattle.std.proofs.lemmas.Bool.{eqb-true, eqb-false, eq-eqb, ne_eqb, cond_both}
-use Rattle.store.specs.Meaning.{image_size, ImageOrNone}
-use Rattle.store.specs.Slots.{slot_size, slots, mark_at, image_at, zeros, used, held_in, LongestRun, UsedSaid}
+-- The used slots are the longest run from the front with mark 00.
+use Rattle.std.proofs.Common.{◌≡◌, ℕ, ◌<◌, eqb, List, [], get_or, sym, ap, ◌∙◌, arith}
+use Rattle.std.proofs.lemmas.List.Sums.{prefix_len_is, prefix_len_passes, prefix_len_stops}
+use Rattle.std.proofs.lemmas.Bool.{eqb-true, eqb-false, eq-eqb, ne_eqb}
+use Rattle.store.specs.Slots.{slot_size, slots, mark_at, slots_of, is_used, used, LongestRun, UsedSaid}
+use Rattle.store.specs.Held.{length_cut, used_within}
+use Rattle.store.proofs.Cut.{get_cut, mark_in_front}
 
-zeros_within : (f : ℕ → ℕ) (n : ℕ) → zeros f n ≤ n
-zeros_within f zero = omega arith
-zeros_within f (suc n) =
-    cond_both (eqb (f 0) 0) (suc (zeros (λ k. f (suc k)) n)) zero (λ x. x ≤ suc n)
-    (λ e. omega (arith, zeros_within (λ k. f (suc k)) n)) (λ e. omega arith)
-
-zeros_are_zero : (f : ℕ → ℕ) (n k : ℕ) → k < zeros f n → f k ≡ 0
-zeros_are_zero f zero k h = absurd (omega arith)
-zeros_are_zero f (suc n) zero h =
-    cond_both (eqb (f 0) 0) (suc (zeros (λ k. f (suc k)) n)) zero (λ x. 0 < x → f 0 ≡ 0) (λ e _. eqb-true (f 0) 0 e)
-    (λ e l. absurd (omega arith)) h
-zeros_are_zero f (suc n) (suc k) h =
-    cond_both (eqb (f 0) 0) (suc (zeros (λ j. f (suc j)) n)) zero (λ x. suc k < x → f (suc k) ≡ 0)
-    (λ e l. zeros_are_zero (λ j. f (suc j)) n k (omega arith)) (λ e l. absurd (omega arith)) h
-
-zeros_end : (f : ℕ → ℕ) (n : ℕ) → zeros f n < n → f (zeros f n) ≡ 0 → ⊥
-zeros_end f zero = λ h e. omega arith
-zeros_end f (suc n) =
-    cond_both (eqb (f 0) 0) (suc (zeros (λ j. f (suc j)) n)) zero (λ x. x < suc n → f x ≡ 0 → ⊥)
-    (λ e l z. zeros_end (λ j. f (suc j)) n (omega arith) z) (λ e l z. eqb-false (f 0) 0 e z)
-
-zeros_only : (f : ℕ → ℕ) (n m : ℕ) → m ≤ n → ((k : ℕ) → k < m → f k ≡ 0) → (m < n → f m ≡ 0 → ⊥) → m ≡ zeros f n
-zeros_only f zero m le all end = omega arith
-zeros_only f (suc n) zero le all end = rw (ne_eqb (f 0) 0 (end (omega arith))) refl
-zeros_only f (suc n) (suc m) le all end =
-    rw (eq-eqb (f 0) 0 (all 0 (omega arith)))
-    (ap suc (zeros_only (λ k. f (suc k)) n m (omega arith) (λ k h. all (suc k) (omega arith)) (λ h. end (omega arith))))
+-- a slot is used if its mark is 00
+used_by_mark : (bs : List ℕ) (k : ℕ) → k < slots bs → is_used (get_or (slots_of bs) k []) ≡ eqb (mark_at bs k) 0
+used_by_mark bs k h = ap is_used (get_cut (slots bs) k bs h) ∙ ap (λ m. eqb m 0) (mark_in_front bs k)
 
 pub used_run : (bs : List ℕ) → LongestRun bs (used bs)
 unfolding used
-used_run bs =
-    record { within = zeros_within (mark_at bs) (slots bs); marked = zeros_are_zero (mark_at bs) (slots bs); ends = zeros_end (mark_at bs) (slots bs) }
+used_run bs = record {
+  within = used_within bs;
+  marked = λ k h. eqb-true (mark_at bs k) 0 (sym (used_by_mark bs k (omega (arith, used_within bs))) ∙ prefix_len_passes is_used (slots_of bs) k [] h);
+  ends = λ h.
+      eqb-false (mark_at bs (used bs)) 0
+      (sym (used_by_mark bs (used bs) h) ∙ prefix_len_stops is_used (slots_of bs) [] (omega (arith, length_cut slot_size (slots bs) bs)));
+}
 
 pub used_only : (bs : List ℕ) (n : ℕ) → LongestRun bs n → n ≡ used bs
 unfolding used
-used_only bs n r = zeros_only (mark_at bs) (slots bs) n r.within r.marked r.ends
+used_only bs n r =
+    let l = length_cut slot_size (slots bs) bs in
+    sym (prefix_len_is is_used (slots_of bs) n [] (omega (arith, l, r.within))
+    (λ k h. used_by_mark bs k (omega (arith, r.within)) ∙ eq-eqb (mark_at bs k) 0 (r.marked k h))
+    (λ h. let m : n < slots bs = omega (arith, l) in used_by_mark bs n m ∙ ne_eqb (mark_at bs n) 0 (r.ends m)))
 
 pub used_said : (bs : List ℕ) → UsedSaid bs
 used_said bs = record { run = used_run bs; only = used_only bs }
-
--- a whole slot has a whole image
-length_image : (bs : List ℕ) (k : ℕ) → k < slots bs → length (image_at bs k) ≡ image_size
-length_image bs k h = omega (arith, length-take image_size (drop (slot_size * k + 1) bs), length-drop (slot_size * k + 1) bs)
-
-pub held_sized : (bs : List ℕ) → ImageOrNone (held_in bs)
-unfolding held_in
-held_sized bs =
-    cond_both (eqb (used bs) 0) None (Some (image_at bs (used bs - 1))) ImageOrNone (λ _. tt)
-    (λ e. length_image bs (used bs - 1) (let u = (used_run bs).within in let ne = eqb-false (used bs) 0 e in omega arith))

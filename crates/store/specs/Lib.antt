@@ -1,3 +1,4 @@
 pub mod Meaning
 pub mod Slots
 pub mod Trial
+pub mod Held

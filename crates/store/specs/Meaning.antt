@@ -1,6 +1,6 @@
 -- What a store answers and means after each call, over the image that it holds, if any, and the writes left.
 use Rattle.std.specs.Prelude.{◌≡◌, ℕ, ◌-◌, Bool, cond, ◌&&◌, List, length, Some, None, Ok, Err, Option, Result, ◌==◌, nat_lt}
-use Rattle.std.specs.Option.{unwrap_or}
+use Rattle.std.specs.Option.{unwrap_or, ForSome}
 use Rattle.store.specs.declared.port.StoreError.{StoreError}
 use Rattle.store.specs.declared.port.StoreError.TheVariants.{WrongLength, NoWritesLeft}
 use Rattle.store.specs.declared.port.Loaded.{Loaded}
@@ -17,8 +17,7 @@ error_number NoWritesLeft = 7
 
 -- what a store can hold: no image, or one of the image size
 abbrev pub ImageOrNone : Option (List ℕ) → Type 0
-ImageOrNone None = Unit {0}
-ImageOrNone (Some xs) = length xs ≡ image_size
+ImageOrNone h = ForSome h (λ xs. length xs ≡ image_size)
 
 -- what a load finds
 abbrev pub found : Option (List ℕ) → Loaded

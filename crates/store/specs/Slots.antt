@@ -1,5 +1,7 @@
 -- Memory that is cut into slots: a mark byte and an image. Bytes past the last slot are in none.
-use Rattle.std.specs.Prelude.{◌≡◌, ℕ, zero, suc, ◌+◌, ◌-◌, ◌*◌, ◌/◌, ◌<◌, ◌≤◌, cond, List, ◌∷◌, ◌++◌, length, take, drop, Some, None, Option, ◌==◌, ◌≢◌, nat_lt, slice_index, slice_set}
+use Rattle.std.specs.Prelude.{◌≡◌, ℕ, ◌+◌, ◌-◌, ◌*◌, ◌/◌, ◌<◌, ◌≤◌, Bool, cond, List, ◌∷◌, ◌++◌, length, take, drop, Some, None, Option, ◌==◌, ◌≢◌, nat_lt, slice_index, slice_set}
+use Rattle.std.specs.List.{prefix_len}
+use Rattle.std.specs.Simd.{first_chunks}
 use Rattle.store.specs.Meaning.{image_size, memory_after}
 
 -- the bytes of a slot
@@ -17,14 +19,16 @@ mark_at bs k = slice_index bs (slot_size * k)
 abbrev pub image_at : List ℕ → ℕ → List ℕ
 image_at bs k = take image_size (drop (slot_size * k + 1) bs)
 
--- the zeros at the front of f, among its first n values
-abbrev pub zeros : (ℕ → ℕ) → ℕ → ℕ
-zeros f zero = zero
-zeros f (suc n) = cond (f 0 == 0) (suc (zeros (λ k. f (suc k)) n)) zero
+-- the slots, each a mark and an image
+abbrev pub slots_of : List ℕ → List (List ℕ)
+slots_of bs = first_chunks slot_size (slots bs) bs
+
+abbrev pub is_used : List ℕ → Bool
+is_used slot = slice_index slot 0 == 0
 
 -- the used slots; `LongestRun` says the same in words
 unfoldable pub used : List ℕ → ℕ
-used bs = zeros (mark_at bs) (slots bs)
+used bs = prefix_len is_used (slots_of bs)
 
 -- the last used slot holds the image, and each slot not used is a write left
 unfoldable pub held_in : List ℕ → Option (List ℕ)

@@ -1,57 +1,43 @@
 // One image in fixed memory, which can be written again.
-ghost use Rattle.std.specs.Prelude.{◌≡◌, false, length, if◌then◌else◌, Some, None};
-ghost use Rattle.store.specs.Meaning.{image_size};
+ghost use Rattle.std.specs.Prelude.{◌≡◌, None};
+ghost use Rattle.store.specs.Meaning.{ImageOrNone};
 
+use crate::image::hand_out;
 use crate::port::{IMAGE, Loaded, Store, StoreError};
 
 #[derive(Drop)]
 pub struct Cell {
-    kept: [u8; IMAGE],
-    full: bool,
+    kept: Option<[u8; IMAGE]>,
     rating: u32,
-    ghost sized: { length kept ≡ image_size },
+    ghost sized: { ImageOrNone kept },
 }
 
 impl Cell {
     // An empty cell that takes so many writes.
     pub fn new(rating: u32) -> Cell
-        ensures held { result.full ≡ false }
-        ensures left { result.rating ≡ rating }
+        ensures held { ⟦<Cell as Store>⟧.held result ≡ None }
+        ensures left { ⟦<Cell as Store>⟧.left result ≡ rating }
     {
-        Cell {
-            kept: [0; IMAGE],
-            full: false,
-            rating,
-        }
+        Cell { kept: None, rating }
     }
 }
 
 impl Store for Cell {
-    ghost held = { λ s. (if s.full then Some s.kept else None) };
+    ghost held = { λ s. s.kept };
 
     ghost left = { λ s. s.rating };
 
+    ghost image_or_none = { λ s. s.sized };
+
     fn load(&mut self, buf: &mut [u8]) -> Result<Loaded, StoreError> {
-        if buf.len() != IMAGE {
-            return Err(StoreError::WrongLength);
-        }
-        if !self.full {
-            return Ok(Loaded::None);
-        }
-        buf.copy_from_slice(&self.kept);
-        Ok(Loaded::Held)
+        hand_out(self.kept.as_ref(), buf)
     }
 
     fn save(&mut self, image: &[u8]) -> Result<(), StoreError> {
-        if image.len() != IMAGE {
-            return Err(StoreError::WrongLength);
-        }
-        if self.rating == 0 {
-            return Err(StoreError::NoWritesLeft);
-        }
-        self.kept.copy_from_slice(image);
-        self.full = true;
-        self.rating -= 1;
+        let image = image.as_array::<IMAGE>().ok_or(StoreError::WrongLength)?;
+        let left = self.rating.checked_sub(1).ok_or(StoreError::NoWritesLeft)?;
+        self.kept = Some(*image);
+        self.rating = left;
         Ok(())
     }
 

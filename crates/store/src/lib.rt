@@ -2,6 +2,7 @@
 #![tactic(auto)]
 
 mod cell;
+mod image;
 mod page;
 mod port;
 mod slots;

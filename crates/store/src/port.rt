@@ -5,26 +5,24 @@ ghost use Rattle.store.specs.Meaning.{error_number, ImageOrNone, load_answer, bu
 // The bytes of an image.
 pub const IMAGE: usize = 140;
 
-#[derive(Clone, Copy)]
+#[derive(Clone, Copy, PartialEq, Debug)]
 pub enum StoreError {
     // the buffer or the image has not the length of an image
-    WrongLength,
-    NoWritesLeft,
+    WrongLength = 6,
+    NoWritesLeft = 7,
 }
 
 impl StoreError {
     pub fn number(&self) -> u8
         ensures { result ≡ error_number self.now }
     {
-        match self {
-            StoreError::WrongLength => 6,
-            StoreError::NoWritesLeft => 7,
-        }
+        *self as u8
     }
 }
 
 // What a load found.
-#[derive(Clone, Copy)]
+// Form: an enum of its own, since an Option of nothing would not say where the image is.
+#[derive(Clone, Copy, PartialEq, Debug)]
 pub enum Loaded {
     // an image, which is in the buffer
     Held,
@@ -50,18 +48,18 @@ pub trait Store {
         ensures buffer { buf.new ≡ buffer_after buf.old (held self.old) }
         ensures held { held self.new ≡ held self.old }
         ensures left { left self.new ≡ left self.old }
-        ensures memory { memory self.new ≡ memory self.old }
-        ensures meant { ImageOrNone (held self.old) };
+        ensures memory { memory self.new ≡ memory self.old };
 
     // Holds the image from now on.
     fn save(&mut self, image: &[u8]) -> Result<(), StoreError>
         ensures answer { result ≡ save_answer (length image.now) (left self.old) }
         ensures held { held self.new ≡ held_after image.now (left self.old) (held self.old) }
         ensures left { left self.new ≡ left_after image.now (left self.old) }
-        ensures memory { memory self.new ≡ memory_after overwritten image.now (left self.old) (memory self.old) }
-        ensures meant { ImageOrNone (held self.old) };
+        ensures memory { memory self.new ≡ memory_after overwritten image.now (left self.old) (memory self.old) };
 
     fn writes_left(&self) -> u64
-        ensures value { result ≡ left self.now }
-        ensures meant { ImageOrNone (held self.now) };
+        ensures value { result ≡ left self.now };
+
+    // what is held is an image
+    ghost image_or_none: { (s : Self) → ImageOrNone (held s) };
 }

@@ -1,9 +1,10 @@
 // Memory that is cut into slots: a mark byte and an image.
 ghost use Rattle.std.specs.Prelude.{◌≡◌, ◌<◌, ◌≤◌, length};
-ghost use Rattle.store.specs.Meaning.{image_size, ImageOrNone, load_answer, buffer_after, save_answer, held_after, left_after};
-ghost use Rattle.store.specs.Slots.{slots, used, held_in, left_in, fenced, filled, bytes_after, rest, UsedSaid};
+ghost use Rattle.std.specs.Option.{option_copied};
+ghost use Rattle.store.specs.Meaning.{save_answer, held_after, left_after};
+ghost use Rattle.store.specs.Slots.{slots, slots_of, used, held_in, left_in, fenced, filled, bytes_after, rest, UsedSaid};
 
-use crate::port::{IMAGE, Loaded, StoreError};
+use crate::port::{IMAGE, StoreError};
 
 // The bytes of a slot.
 const SLOT: usize = IMAGE + 1;
@@ -12,63 +13,57 @@ const USED: u8 = 0x00;
 
 const UNUSED: u8 = 0xFF;
 
+// The slots, without the bytes that are in none.
+fn slots_of(bytes: &[u8]) -> &[[u8; SLOT]]
+    ensures cut { result.now ≡ slots_of bytes.now }
+    ensures count { length result.now ≡ slots bytes.now }
+{
+    bytes.as_chunks().0
+}
+
 pub(crate) fn used_slots(bytes: &[u8]) -> usize
     ensures value { result ≡ used bytes.now }
     ensures within { result ≤ slots bytes.now }
     ensures said { UsedSaid bytes.now }
-    ensures meant { ImageOrNone (held_in bytes.now) }
 {
-    let slots = bytes.len() / SLOT;
-    for k in 0..slots {
-        if bytes[SLOT * k] != USED {
-            return k;
-        }
-    }
-    slots
+    slots_of(bytes)
+        .iter()
+        .take_while(|slot| slot[0] == USED)
+        .count()
 }
 
 pub(crate) fn left_in(bytes: &[u8]) -> usize
-    ensures value { result ≡ left_in bytes.now }
-    ensures meant { ImageOrNone (held_in bytes.now) }
+    ensures { result ≡ left_in bytes.now }
 {
-    bytes.len() / SLOT - used_slots(bytes)
+    slots_of(bytes).len() - used_slots(bytes)
+}
+
+// The image of the last used slot.
+pub(crate) fn held_image(bytes: &[u8]) -> Option<&[u8; IMAGE]>
+    ensures { option_copied result ≡ held_in bytes.now }
+{
+    let slot = slots_of(bytes)[..used_slots(bytes)].last()?;
+    slot.last_chunk()
 }
 
 // Marks slot `j` as not used, if there is such a slot.
+// Form: places are computed, since the library does not say what the memory ends as where its slots are lent.
 fn fence(bytes: &mut [u8], j: usize)
     ensures { bytes.new ≡ fenced bytes.old j }
 {
-    if j < bytes.len() / SLOT {
+    if j < slots_of(bytes).len() {
         bytes[SLOT * j] = UNUSED;
     }
 }
 
 // Writes an image to slot `k`, and then its mark.
-fn fill(bytes: &mut [u8], k: usize, image: &[u8])
-    requires { (k < slots bytes.old) × (length image.now ≡ image_size) }
+fn fill(bytes: &mut [u8], k: usize, image: &[u8; IMAGE])
+    requires { k < slots bytes.old }
     ensures { bytes.new ≡ filled bytes.old k image.now }
 {
     let at = SLOT * k;
     bytes[at + 1..at + SLOT].copy_from_slice(image);
     bytes[at] = USED;
-}
-
-pub(crate) fn load_from(bytes: &mut [u8], buf: &mut [u8]) -> Result<Loaded, StoreError>
-    ensures answer { result ≡ load_answer (length buf.old) (held_in bytes.old) }
-    ensures buffer { buf.new ≡ buffer_after buf.old (held_in bytes.old) }
-    ensures bytes { bytes.new ≡ bytes.old }
-    ensures meant { ImageOrNone (held_in bytes.old) }
-{
-    let used = used_slots(bytes);
-    if buf.len() != IMAGE {
-        return Err(StoreError::WrongLength);
-    }
-    if used == 0 {
-        return Ok(Loaded::None);
-    }
-    let at = SLOT * (used - 1) + 1;
-    buf.copy_from_slice(&bytes[at..at + IMAGE]);
-    Ok(Loaded::Held)
 }
 
 pub(crate) fn save_to(bytes: &mut [u8], image: &[u8]) -> Result<(), StoreError>
@@ -77,13 +72,10 @@ pub(crate) fn save_to(bytes: &mut [u8], image: &[u8]) -> Result<(), StoreError>
     ensures left { left_in bytes.new ≡ left_after image.now (left_in bytes.old) }
     ensures bytes { bytes.new ≡ bytes_after image.now bytes.old }
     ensures rest { rest bytes.new ≡ rest bytes.old }
-    ensures meant { ImageOrNone (held_in bytes.old) }
 {
+    let image = image.as_array::<IMAGE>().ok_or(StoreError::WrongLength)?;
     let used = used_slots(bytes);
-    if image.len() != IMAGE {
-        return Err(StoreError::WrongLength);
-    }
-    if used == bytes.len() / SLOT {
+    if used == slots_of(bytes).len() {
         return Err(StoreError::NoWritesLeft);
     }
     fence(bytes, used + 1);

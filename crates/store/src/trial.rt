@@ -6,7 +6,7 @@ ghost use Rattle.store.specs.Trial.{held_after_two, left_after_two, trial_of, Tr
 use crate::port::{Loaded, Store, StoreError};
 
 // The answers of two saves and then a load.
-#[derive(Clone, Copy)]
+#[derive(Clone, Copy, PartialEq, Debug)]
 pub struct Trial {
     pub first: Result<(), StoreError>,
     pub second: Result<(), StoreError>,

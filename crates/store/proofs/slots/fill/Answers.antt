@@ -5,5 +5,5 @@ use Rattle.store.proofs.slots.fill.Goals as goal
 
 pub returns : goal.returns
 returns c =
-    filled_by_copy c.args.bytes.now c.args.k c.args.image.now (omega arith) c.requires.1 c.copy_from_slice.new.self
+    filled_by_copy c.args.bytes.now c.args.k c.args.image.now (omega arith) c.told-image c.copy_from_slice.new.self
     c.copy_from_slice.ensures.after
