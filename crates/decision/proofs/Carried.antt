@@ -91,9 +91,6 @@ says_by (flags {s} {c} h k) =
 says_by entries_asked = inl (refl, refl)
 says_by (entries {xs} {n} e l h) = inr (is_fits (length xs) n e l h, refl)
 
-pub ok_not_err : {A E : Type 0} {a : A} {e : E} → Ok a ≡ Err e → ⊥
-ok_not_err h = let z : ◌≡◌ {A = ℕ} 0 1 = cc in omega arith
-
 pub carried_says : (c : Carries) (xs : List ℕ) (a : Asked) → Bytes xs → carried c xs ≡ Ok a → Says c xs a
 carried_says c xs a b =
     let P : Decision → Type 0 = λ d. d ≡ Ok a → Says c xs a in
@@ -104,7 +101,7 @@ carried_says c xs a b =
     (λ t.
     cond_both (full c (length xs)) _ _ P
     (λ u e. let same : Set (filled c xs) ≡ a = cc in subst (Says c xs) same (filled_says c xs b u))
-    (λ u e. absurd (ok_not_err (sym e))))
+    (λ u e. cc))
 
 -- where no value is empty
 pub says_carried : {c : Carries} {xs : List ℕ} {a : Asked} → full c 0 ≡ false → Says c xs a → carried c xs ≡ Ok a
@@ -118,9 +115,9 @@ says_carried {c} {xs} {a} z s =
     (says_by s)
 
 outcome_allowed : (t u : Bool) (x y : Asked) → outcome t u x y ≡ Err NotAllowed → ⊥
-outcome_allowed true u x y e = ok_not_err e
-outcome_allowed false true x y e = ok_not_err e
-outcome_allowed false false x y e = let z : ◌≡◌ {A = ℕ} 0 1 = cc in omega arith
+outcome_allowed true u x y e = cc
+outcome_allowed false true x y e = cc
+outcome_allowed false false x y e = cc
 
 pub carried_allowed : (c : Carries) (xs : List ℕ) → carried c xs ≡ Err NotAllowed → ⊥
 carried_allowed c xs = outcome_allowed (eqb (length xs) 0) (full c (length xs)) (empty c) (Set (filled c xs))
@@ -134,9 +131,9 @@ pub carried_otherwise : (c : Carries) (xs : List ℕ) → ((a : Asked) → carri
 carried_otherwise c xs = outcome_otherwise (eqb (length xs) 0) (full c (length xs)) (empty c) (Set (filled c xs))
 
 outcome_class : (t u : Bool) (x y z a : Asked) → outcome t u x y ≡ Err WrongLength → outcome t u x z ≡ Ok a → ⊥
-outcome_class true u x y z a e h = ok_not_err e
-outcome_class false true x y z a e h = ok_not_err e
-outcome_class false false x y z a e h = ok_not_err (sym h)
+outcome_class true u x y z a e h = cc
+outcome_class false true x y z a e h = cc
+outcome_class false false x y z a e h = cc
 
 -- data of one length are wrong together
 pub wrong_together : (c : Carries) (xs ys : List ℕ) (a : Asked) → length ys ≡ length xs → carried c xs ≡ Err WrongLength

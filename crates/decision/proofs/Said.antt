@@ -1,27 +1,23 @@
 -- The decision in the words of the table.
-use Rattle.std.proofs.Common.{◌≡◌, ℕ, Ok, Err, sym, refl, ◌∙◌, arith}
+use Rattle.std.proofs.Common.{◌≡◌, Ok, Err, sym, refl, ◌∙◌}
 use Rattle.decision.specs.declared.deciding.MessageError.TheVariants.{NotAllowed, WrongLength}
-use Rattle.decision.specs.Decided.{Decision}
 use Rattle.decision.specs.Table.{Message, Allows, Says, DecisionSaid}
-use Rattle.decision.proofs.Carried.{ok_not_err, carried_says, says_carried, carried_allowed, carried_otherwise, wrong_together}
+use Rattle.decision.proofs.Carried.{carried_says, says_carried, carried_allowed, carried_otherwise, wrong_together}
 use Rattle.decision.proofs.Rows.{decided_by, decided_row, row_value}
-
-errors_differ : ◌≡◌ {A = Decision} (Err NotAllowed) (Err WrongLength) → ⊥
-errors_differ e = let z : ◌≡◌ {A = ℕ} 0 1 = cc in omega arith
 
 pub said : DecisionSaid
 said = record {
   asks = λ s p i xs a b.
       decided_by (λ d. d ≡ Ok a → (m : Message) × Allows s p i m × Says m.carries xs a) s p i xs
       (λ m h e. (m, h, carried_says m.carries xs a b e))
-      (λ none e. absurd (ok_not_err (sym e)));
+      (λ none e. cc);
   is_asked = λ s p i xs a m b h k. decided_row xs h ∙ says_carried (row_value h) k;
   not_allowed = λ s p i xs e m h. carried_allowed m.carries xs (sym (decided_row xs h) ∙ e);
   is_not_allowed = λ s p i xs none.
       decided_by (λ d. d ≡ Err NotAllowed) s p i xs (λ m h. absurd (none m h)) (λ _. refl);
   wrong_length = λ s p i xs e. (
     decided_by (λ d. d ≡ Err WrongLength → (m : Message) × Allows s p i m) s p i xs (λ m h f. (m, h))
-        (λ none f. absurd (errors_differ f)) e,
+        (λ none f. cc) e,
     λ m ys a h same k.
         wrong_together m.carries xs ys a same (sym (decided_row xs h) ∙ e) (says_carried (row_value h) k),
   );

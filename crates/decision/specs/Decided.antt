@@ -73,10 +73,7 @@ in_measurement i content =
 abbrev pub in_wake_up : ℕ → List ℕ → Decision
 in_wake_up i content = cond (i == 0x3F) (bare Wake content) (Err NotAllowed)
 
-abbrev pub by_state : State → Product → ℕ → List ℕ → Decision
-by_state state.WakeUp p i content = in_wake_up i content
-by_state state.Config p i content = in_config p i content
-by_state state.Measurement p i content = in_measurement i content
-
 unfoldable pub decided : State → Product → ℕ → List ℕ → Decision
-decided s p i content = by_state s p i content
+decided state.WakeUp p i content = in_wake_up i content
+decided state.Config p i content = in_config p i content
+decided state.Measurement p i content = in_measurement i content

@@ -1,7 +1,7 @@
 // What a message asks for.
 
 // What is asked without data.
-#[derive(Clone, Copy)]
+#[derive(Clone, Copy, PartialEq, Debug)]
 pub enum Question {
     DeviceId,
     Name,
@@ -16,7 +16,7 @@ pub enum Question {
 }
 
 // A change of the settings, with its value.
-#[derive(Clone, Copy)]
+#[derive(Clone, Copy, PartialEq, Debug)]
 pub enum Change<'a> {
     Baud(u8),
     ErrorMode(u16),
@@ -28,7 +28,7 @@ pub enum Change<'a> {
     Factory,
 }
 
-#[derive(Clone, Copy)]
+#[derive(Clone, Copy, PartialEq, Debug)]
 pub enum Action<'a> {
     Wake,
     Configure,
