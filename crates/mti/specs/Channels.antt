@@ -1,5 +1,6 @@
 -- The channels of the products. Assumes nothing.
-use Rattle.std.specs.Prelude.{ℕ, Bool, true, false, cond, List, [], ◌∷◌, Some, None, Option, ◌==◌}
+use Rattle.std.specs.Prelude.{ℕ, Bool, true, false, List, [], ◌∷◌, Option, ◌==◌}
+use Rattle.std.specs.List.{find}
 use Rattle.mti.specs.declared.channel.Availability.{Availability}
 use Rattle.mti.specs.declared.channel.Availability.TheVariants.{All, From300, OnlyG710}
 use Rattle.mti.specs.declared.channel.Kind.{Kind}
@@ -57,8 +58,7 @@ channels =
 
 -- the first row that bears the identifier
 abbrev pub first_of : ℕ → List Channel → Option Channel
-first_of i [] = None
-first_of i (c ∷ cs) = cond (c.identifier == i) (Some c) (first_of i cs)
+first_of i = find (λ c. c.identifier == i)
 
 -- the channel of an identifier whose format digit is 0
 unfoldable pub channel_of : ℕ → Option Channel

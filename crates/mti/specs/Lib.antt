@@ -3,3 +3,4 @@ pub mod Precisions
 pub mod Channels
 pub mod Table
 pub mod Identifiers
+pub mod Readings

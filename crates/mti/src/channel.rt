@@ -10,14 +10,14 @@ use crate::precision::Precision;
 use crate::product::Product;
 
 // What a channel sends: so many real numbers, or one unsigned whole number of so many bytes.
-#[derive(Clone, Copy)]
+#[derive(Clone, Copy, PartialEq, Debug)]
 pub enum Kind {
     Real(u8),
     Whole(u8),
 }
 
 // The products that offer a channel.
-#[derive(Clone, Copy)]
+#[derive(Clone, Copy, PartialEq, Debug)]
 pub enum Availability {
     All,
     From300,
@@ -25,7 +25,7 @@ pub enum Availability {
 }
 
 // A channel by its identifier, whose last hexadecimal digit is 0.
-#[derive(Clone, Copy)]
+#[derive(Clone, Copy, PartialEq, Debug)]
 pub struct Channel {
     pub identifier: u16,
     pub kind: Kind,
@@ -38,11 +38,10 @@ impl Channel {
     pub fn offered_by(self, product: Product) -> bool
         ensures { result ≡ offered_by self.availability product }
     {
-        match (self.availability, product) {
-            (All, _) => true,
-            (From300, Product::Mti300 | Product::MtiG710) => true,
-            (OnlyG710, Product::MtiG710) => true,
-            _ => false,
+        match self.availability {
+            All => true,
+            From300 => matches!(product, Product::Mti300 | Product::MtiG710),
+            OnlyG710 => product == Product::MtiG710,
         }
     }
 
@@ -85,12 +84,9 @@ const CHANNELS: [Channel; 19] = [
 fn first(rows: &[Channel], identifier: u16) -> Option<Channel>
     ensures { result ≡ first_of identifier rows.now }
 {
-    for row in rows {
-        if row.identifier == identifier {
-            return Some(*row);
-        }
-    }
-    None
+    rows.iter()
+        .find(|row| row.identifier == identifier)
+        .copied()
 }
 
 // The channel of the table that bears the identifier.

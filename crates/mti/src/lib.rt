@@ -5,8 +5,10 @@ mod channel;
 mod output;
 mod precision;
 mod product;
+mod readings;
 
 pub use channel::{Availability, Channel, Kind, find_channel};
 pub use output::{Output, data_size, known};
-pub use precision::Precision;
+pub use precision::{Precision, UnknownDigit};
 pub use product::Product;
+pub use readings::{HIGHEST, LOWEST};

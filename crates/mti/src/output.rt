@@ -2,13 +2,13 @@
 ghost use Rattle.std.specs.Prelude.{◌≡◌, ℕ};
 ghost use Rattle.std.specs.Option.{option_map};
 ghost use Rattle.mti.specs.Exactly.{Exactly};
-ghost use Rattle.mti.specs.Identifiers.{combined, known_of, identifier_of, size_of, data_size_of, Known, KnownSize, Bounded};
+ghost use Rattle.mti.specs.Identifiers.{known_of, identifier_of, size_of, data_size_of, Known, KnownSize, Bounded};
 
 use crate::channel::{Channel, Kind, find_channel};
 use crate::precision::Precision;
 
 // A channel in a precision.
-#[derive(Clone, Copy)]
+#[derive(Clone, Copy, PartialEq, Debug)]
 pub struct Output {
     pub channel: Channel,
     pub precision: Precision,
@@ -29,22 +29,9 @@ impl Output {
         ensures { result ≡ size_of self.now }
     {
         match self.channel.kind {
-            Kind::Real(count) => count as usize * self.precision.width(),
-            Kind::Whole(width) => width as usize,
+            Kind::Real(count) => usize::from(count) * self.precision.width(),
+            Kind::Whole(width) => usize::from(width),
         }
-    }
-}
-
-// The channel in the precision, where there are both and the channel takes it.
-fn combine(channel: Option<Channel>, precision: Option<Precision>) -> Option<Output>
-    ensures { result ≡ combined channel precision }
-{
-    let channel = channel?;
-    let precision = precision?;
-    if channel.takes(precision) {
-        Some(Output { channel, precision })
-    } else {
-        None
     }
 }
 
@@ -55,10 +42,10 @@ pub fn known(identifier: u16) -> Option<Output>
     ensures bounded { Bounded (option_map size_of result) }
 {
     let digit = identifier % 16;
-    combine(
-        find_channel(identifier - digit),
-        Precision::from_digit(digit),
-    )
+    let channel = find_channel(identifier - digit)?;
+    let precision = Precision::try_from(digit).ok()?;
+    let output = Output { channel, precision };
+    channel.takes(precision).then_some(output)
 }
 
 // The data size of a known identifier.
@@ -67,8 +54,5 @@ pub fn data_size(identifier: u16) -> Option<usize>
     ensures exact { Exactly (KnownSize identifier) result }
     ensures bounded { Bounded result }
 {
-    match known(identifier) {
-        Some(output) => Some(output.size()),
-        None => None,
-    }
+    known(identifier).map(|output| output.size())
 }

@@ -1,14 +1,15 @@
 // The formats of one real number.
 ghost use Rattle.std.specs.Prelude.{◌≡◌};
+ghost use Rattle.std.specs.Result.{result_ok};
 ghost use Rattle.mti.specs.Exactly.{Exactly};
-ghost use Rattle.mti.specs.Precisions.{digit_of, precision_of, width_of};
+ghost use Rattle.mti.specs.Precisions.{decoded_of, digit_of, width_of};
 
 #[derive(Clone, Copy, PartialEq, Debug)]
 pub enum Precision {
-    Single,
-    Fixed32,
-    Fixed48,
-    Double,
+    Single = 0,
+    Fixed32 = 1,
+    Fixed48 = 2,
+    Double = 3,
 }
 
 impl Precision {
@@ -16,26 +17,7 @@ impl Precision {
     pub fn digit(self) -> u16
         ensures { result ≡ digit_of self }
     {
-        match self {
-            Precision::Single => 0,
-            Precision::Fixed32 => 1,
-            Precision::Fixed48 => 2,
-            Precision::Double => 3,
-        }
-    }
-
-    // The precision with this format digit.
-    pub fn from_digit(digit: u16) -> Option<Precision>
-        ensures is { result ≡ precision_of digit }
-        ensures exact { Exactly (λ p. digit_of p ≡ digit) result }
-    {
-        match digit {
-            0 => Some(Precision::Single),
-            1 => Some(Precision::Fixed32),
-            2 => Some(Precision::Fixed48),
-            3 => Some(Precision::Double),
-            _ => None,
-        }
+        self as u16
     }
 
     // The bytes of one real number.
@@ -47,6 +29,30 @@ impl Precision {
             Precision::Fixed32 => 4,
             Precision::Fixed48 => 6,
             Precision::Double => 8,
+        }
+    }
+}
+
+// A format digit that no precision has.
+#[derive(Clone, Copy, PartialEq, Debug)]
+pub struct UnknownDigit(pub u16);
+
+impl TryFrom<u16> for Precision {
+    type Error = UnknownDigit;
+
+    ghost try_from_gives = { λ digit r. r ≡ decoded_of digit };
+
+    // The precision with this format digit.
+    fn try_from(digit: u16) -> Result<Precision, UnknownDigit>
+        ensures is { result ≡ decoded_of digit }
+        ensures exact { Exactly (λ p. digit_of p ≡ digit) (result_ok result) }
+    {
+        match digit {
+            0 => Ok(Precision::Single),
+            1 => Ok(Precision::Fixed32),
+            2 => Ok(Precision::Fixed48),
+            3 => Ok(Precision::Double),
+            _ => Err(UnknownDigit(digit)),
         }
     }
 }

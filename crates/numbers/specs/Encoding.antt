@@ -7,16 +7,10 @@ use Rattle.xbus.specs.Numbers.{be}
 use Rattle.mti.specs.Precisions.{width_of}
 use Rattle.mti.specs.declared.precision.Precision.{Precision}
 use Rattle.mti.specs.declared.precision.Precision.TheVariants.{Single, Fixed32, Fixed48, Double}
+use Rattle.mti.specs.Readings.{lowest, highest}
 use Rattle.numbers.specs.Steps.{steps}
 
--- -2 ^ 47
-abbrev pub lowest : ℤ
-lowest = negsuc (2 ^ 47 - 1)
-
--- 2 ^ 47 - 1
-abbrev pub highest : ℤ
-highest = pos (2 ^ 47 - 1)
-
+-- a reading that can be sent
 abbrev pub in_range : ℤ → Bool
 in_range v = int_le lowest v && int_le v highest
 

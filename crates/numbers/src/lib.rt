@@ -1,8 +1,8 @@
 // A sensor reading as the bytes that are sent, in four precisions.
 #![tactic(auto)]
 
-mod fixed;
-mod floats;
 mod put;
+mod reading;
 
-pub use put::{HIGHEST, LOWEST, NumberError, put_real};
+pub use mti::{HIGHEST, LOWEST};
+pub use put::{NumberError, put_real};

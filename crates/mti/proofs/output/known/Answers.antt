@@ -1,11 +1,16 @@
--- What the identifier names, with its theorems, from what was found.
-use Rattle.std.proofs.Common.{◌≡◌}
-use Rattle.mti.specs.Identifiers.{known_of}
+-- No channel, no precision, and both: each answer is what the identifier names, with its theorems.
+use Rattle.std.proofs.Common.{rules}
 use Rattle.mti.proofs.Named.{known_exactly, answer_bounded}
 use Rattle.mti.proofs.output.known.Goals as goal
 
-pub returns : goal.returns
-returns c =
-    let e : c.combine.result ≡ known_of c.args.identifier
-    = cc (c.find_channel.ensures.is, c.from_digit.ensures.is, c.combine.ensures) in
-    record { is = e; exact = known_exactly c.args.identifier _ e; bounded = answer_bounded c.args.identifier _ e }
+pub returns-in_err-channel-clause-exact : goal.returns-in_err-channel-clause-exact
+returns-in_err-channel-clause-exact c = known_exactly c.args.identifier _ (search rules)
+
+pub returns-in_err-precision-clause-exact : goal.returns-in_err-precision-clause-exact
+returns-in_err-precision-clause-exact c = known_exactly c.args.identifier _ (search rules)
+
+pub returns-clause-exact : goal.returns-clause-exact
+returns-clause-exact c = known_exactly c.args.identifier _ (search rules)
+
+pub returns-clause-bounded : goal.returns-clause-bounded
+returns-clause-bounded c = answer_bounded c.args.identifier _ (search rules)

@@ -1,8 +1,0 @@
--- The quotient is exact.
-use Rattle.std.proofs.Common.{w64}
-use Rattle.std.proofs.lemmas.Int.{to_z-of_z}
-use Rattle.numbers.proofs.Quotients.{divisor, scaled_is}
-use Rattle.numbers.proofs.floats.scaled.Goals as goal
-
-pub returns : goal.returns
-returns c = rw (to_z-of_z w64 c.args.value c.ranges.value, divisor) (scaled_is c.args.value c.requires)
