@@ -1,5 +1,6 @@
 // What settings hold, in fixed memory.
 ghost use Rattle.std.specs.Prelude.{◌≡◌, ◌≤◌, length};
+ghost use Rattle.mti.specs.Identifiers.{plain};
 
 // The most entries that a list of outputs has.
 pub const MOST_ENTRIES: usize = 32;
@@ -9,6 +10,15 @@ pub const MOST_ENTRIES: usize = 32;
 pub struct Entry {
     pub identifier: u16,
     pub frequency: u16,
+}
+
+impl Entry {
+    // The identifier of the channel: the identifier with 0 for its last hexadecimal digit.
+    pub fn channel(self) -> u16
+        ensures { result ≡ plain self.identifier }
+    {
+        self.identifier - self.identifier % 16
+    }
 }
 
 // A list of at most 32 outputs.
