@@ -6,7 +6,7 @@ ghost use Rattle.mti.specs.Identifiers.{plain};
 pub const MOST_ENTRIES: usize = 32;
 
 // An output: an identifier and how often its data are sent, in Hz.
-#[derive(Clone, Copy)]
+#[derive(Clone, Copy, PartialEq, Eq, Debug)]
 pub struct Entry {
     pub identifier: u16,
     pub frequency: u16,
@@ -21,7 +21,12 @@ impl Entry {
     }
 }
 
+// A list has no room for one more output.
+#[derive(Clone, Copy, PartialEq, Eq, Debug)]
+pub struct ListFull;
+
 // A list of at most 32 outputs.
+// Form: an array and a count, since a device has no heap and settings stay Copy, which the kit's ArrayVec is not.
 #[derive(Clone, Copy)]
 pub struct Entries {
     list: [Entry; MOST_ENTRIES],
