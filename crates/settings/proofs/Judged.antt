@@ -1,5 +1,6 @@
 -- The test of settings, by its parts.
-use Rattle.std.proofs.Common.{◌≡◌, Bool, true, false, ltb, leb, List, length, Option, sym, ap, ◌∙◌, ⊎_elim}
+use Rattle.std.proofs.Common.{◌≡◌, Bool, true, false, ltb, leb, List, length, Some, None, Option, sym, ap, ◌∙◌, ⊎_elim}
+use Rattle.std.specs.Option.{MatchOption}
 use Rattle.std.proofs.lemmas.Bool.{and_parts, cases_Bool}
 use Rattle.mti.specs.declared.product.Product.{Product}
 use Rattle.mti.specs.declared.output.Output.{Output}
@@ -52,3 +53,9 @@ refused c wrong =
 pub entry_test : (p : Product) (e : Entry) (o : Option Output) → o ≡ known_of e.identifier → suits p e.frequency o ≡ valid_entry p e
 unfolding valid_entry
 entry_test p e o k = ap (suits p e.frequency) k
+
+-- by what a test of the output says where there is one
+pub entry_judged : (p : Product) (e : Entry) (o : Option Output) (r : Bool) (Said : Output → Type 0) → o ≡ known_of e.identifier
+    → MatchOption o (r ≡ false) Said → ((x : Output) → Said x → r ≡ suits p e.frequency (Some x)) → r ≡ valid_entry p e
+entry_judged p e None r Said k m h = m ∙ entry_test p e None k
+entry_judged p e (Some o) r Said k m h = h o m ∙ entry_test p e (Some o) k

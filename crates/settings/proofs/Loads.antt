@@ -1,14 +1,16 @@
 -- What a load answers on each of its ways.
-use Rattle.std.proofs.Common.{◌≡◌, ℕ, ◌<◌, true, false, List, length, Some, None, Option, sym, ap, ◌∙◌, arith}
-use Rattle.std.specs.Str.{bytes_eq}
-use Rattle.std.proofs.lemmas.Slice.Eq.{bytes_eq-Decides}
-use Rattle.std.proofs.lemmas.Bool.{cond-true, cond_both, both_ways}
+use Rattle.std.proofs.Common.{◌≡◌, ℕ, ◌<◌, true, false, Bool, cond, List, length, Some, None, Option, Ok, Err, Result, Decides, sym, refl, ap, subst, ◌∙◌, arith}
+use Rattle.std.specs.Bool.{then_some}
+use Rattle.std.specs.Option.{option_map}
+use Rattle.std.specs.Result.{result_ok, MatchResult}
+use Rattle.std.proofs.lemmas.Bool.{cond-true, cond_both, false≢true}
 use Rattle.mti.specs.declared.product.Product.{Product}
 use Rattle.mti.proofs.Exact.{some_not_none, none_not_some}
 use Rattle.settings.specs.Values.{Values}
 use Rattle.settings.specs.Valid.{valid}
 use Rattle.settings.specs.Image.{image_of, number_at, read_of, load_of}
-use Rattle.settings.specs.View.{checked_of}
+use Rattle.settings.specs.View.{values_of, checked_of}
+use Rattle.settings.specs.declared.checked.Settings.{Settings}
 use Rattle.settings.proofs.Bounds.{fits}
 use Rattle.settings.proofs.Spelt.{count_read}
 use Rattle.settings.proofs.Stores.{length_image, load_some, load_none}
@@ -39,11 +41,23 @@ module _ (p : Product) (xs : List ℕ) where
       loaded : d ≡ read_of p xs
       loaded = (checked_some values d some).0 ∙ read
 
-      pub not_same : false ≡ bytes_eq image xs → None ≡ load_of p xs
-      not_same n = sym (load_none p xs (λ v e. both_ways _ (sym n) ((bytes_eq-Decides image xs).1 (is ∙ ap image_of loaded ∙ e))))
-
-      pub same_image : true ≡ bytes_eq image xs → Some d ≡ load_of p xs
-      same_image t =
+      pub compared : (b : Bool) → Decides b (image ≡ xs) → cond b (Some d) None ≡ load_of p xs
+      compared true e =
           ap Some loaded
-          ∙ sym (load_some p xs (ap valid (sym read) ∙ (checked_some values d some).1)
-          (ap image_of (sym loaded) ∙ sym is ∙ (bytes_eq-Decides image xs).0 (sym t)))
+          ∙ sym (load_some p xs (ap valid (sym read) ∙ (checked_some values d some).1) (ap image_of (sym loaded) ∙ sym is ∙ e.0 refl))
+      compared false e = sym (load_none p xs (λ v h. false≢true (e.1 (is ∙ ap image_of loaded ∙ h))))
+
+-- the settings are handed out if the comparison holds
+pub handed_out : (b : Bool) (s : Settings) → option_map values_of (then_some b s) ≡ cond b (Some (values_of s)) None
+handed_out true s = refl
+handed_out false s = refl
+
+-- what a conversion that may fail gives
+
+pub taken : {A E : Type 0} (r : Result A E) (P : A → Type 0) (Q : E → Type 0) (x : A) → Some x ≡ result_ok r → MatchResult r P Q → P x
+taken (Ok y) P Q x e m = let s : y ≡ x = cc in subst P s m
+taken (Err y) P Q x e m = absurd (some_not_none x e)
+
+pub not_taken : {A E : Type 0} (r : Result A E) (P : A → Type 0) (R : Type 0) → None ≡ result_ok r → MatchResult r P (λ _. R) → R
+not_taken (Ok y) P R e m = absurd (none_not_some y e)
+not_taken (Err y) P R e m = m

@@ -1,7 +1,7 @@
 -- Numbers and entries as they are read from bytes.
 use Rattle.std.proofs.Common.{◌≡◌, ℕ, zero, suc, ◌+◌, ◌-◌, ◌*◌, ◌%◌, ◌^◌, ◌<◌, ◌≤◌, Bool, cond, ltb, List, [], ◌∷◌, ◌++◌, length, get_or, take, drop, sym, refl, ap, ◌∙◌, subst, mod-eq_of_lt, add-one, arith}
 use native.Mathlib.Nat.{pow-le-pow_right}
-use Rattle.std.proofs.lemmas.List.{length-take-le, length-drop, length_push}
+use Rattle.std.proofs.lemmas.List.{length-take-le, length-drop, length_push, at_drop_more}
 use Rattle.xbus.specs.Numbers.{number_of}
 use Rattle.xbus.proofs.Bytes.{bytes_all, bytes_take, bytes_drop}
 use Rattle.xbus.proofs.Widths.{number_lt}
@@ -24,10 +24,16 @@ number_within xs h at width r room small e =
     let is : r ≡ number_of ys = e ∙ ap (λ k. number_of (take k (drop at xs)) % 2 ^ 64) w ∙ mod-eq_of_lt (omega arith) in
     (is, omega arith)
 
-length_entries : (xs : List ℕ) (n : ℕ) → length (entries_at xs n) ≡ n
+pub length_entries : (xs : List ℕ) (n : ℕ) → length (entries_at xs n) ≡ n
 unfolding entries_at
 length_entries xs zero = refl
 length_entries xs (suc n) = length_push (entries_at xs n) (entry_at xs n) ∙ omega (arith, length_entries xs n)
+
+-- a number of one byte is the byte
+pub byte_at : (xs : List ℕ) (at : ℕ) → at < length xs → get_or xs at 0 ≡ number_at xs at 1
+byte_at xs at h =
+    let e : number_at xs at 1 ≡ get_or xs at 0 * 1 + 0 = at_drop_more (λ ys. number_of (take 1 ys)) xs at 0 h in
+    omega (arith, e)
 
 -- the count of what is read
 pub count_read : (p : Product) (xs : List ℕ) → length (read_of p xs).entries ≡ number_at xs 1 1

@@ -1,5 +1,6 @@
 -- Which settings a product can have, as tests. `Rules` says the same in words.
 use Rattle.std.specs.Prelude.{ℕ, ◌+◌, ◌%◌, Bool, true, false, not, ◌&&◌, ◌||◌, List, [], ◌∷◌, length, Some, None, Option, ◌==◌, bit_and, nat_le, nat_lt}
+use Rattle.std.specs.List.{list_all}
 use Rattle.mti.specs.declared.product.Product.{Product}
 use Rattle.mti.specs.declared.product.Product.TheVariants.{Mti3, Mti30, Mti300, MtiG710}
 use Rattle.mti.specs.declared.output.Output.{Output}
@@ -43,8 +44,7 @@ valid_entry p e = suits p e.frequency (known_of e.identifier)
 
 -- no entry is of the channel
 abbrev pub unlisted : ℕ → List Entry → Bool
-unlisted channel [] = true
-unlisted channel (e ∷ es) = not (plain e.identifier == channel) && unlisted channel es
+unlisted channel es = list_all (λ e. not (plain e.identifier == channel)) es
 
 -- each entry is valid, and no two are of one channel
 abbrev pub valid_entries : Product → List Entry → Bool

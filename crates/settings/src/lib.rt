@@ -8,4 +8,4 @@ mod rules;
 
 pub use checked::Settings;
 pub use rate::largest_divisor;
-pub use record::{Entries, Entry, MOST_ENTRIES, Record};
+pub use record::{Entries, Entry, ListFull, MOST_ENTRIES, Record};

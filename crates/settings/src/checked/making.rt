@@ -19,11 +19,12 @@ fn at_100_hz(identifiers: &[u16]) -> Entries
     ensures { listed result ≡ map (λ i. entry i 100) identifiers.now }
 {
     let mut entries = Entries::new();
-    for identifier in identifiers {
-        let _ = entries.push(Entry {
-            identifier: *identifier,
+    for &identifier in identifiers {
+        let entry = Entry {
+            identifier,
             frequency: 100,
-        });
+        };
+        entries.push(entry).unwrap();
     }
     entries
 }
@@ -43,6 +44,7 @@ impl Settings {
         ensures is { option_map values_of result ≡ checked_of (recorded product values.now) }
         ensures said { ValidSaid }
     {
+        // Form: the type says that settings are valid, so they are made only where the test holds.
         if is_valid(product, values) {
             Some(Settings {
                 product,

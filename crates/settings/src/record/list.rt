@@ -1,8 +1,9 @@
 // Lists of outputs in fixed memory.
 ghost use Rattle.std.specs.Prelude.{◌≡◌, ◌≤◌, [], ◌∷◌, ◌++◌, length, if◌then◌else◌, nat_lt};
+ghost use Rattle.std.specs.Result.{is_ok};
 ghost use Rattle.settings.specs.Values.{listed};
 
-use super::{Entries, Entry, MOST_ENTRIES};
+use super::{Entries, Entry, ListFull, MOST_ENTRIES};
 
 impl Entries {
     pub fn new() -> Entries
@@ -18,17 +19,17 @@ impl Entries {
         }
     }
 
-    // One more entry at the end; false, and nothing changes, if there are 32.
-    pub fn push(&mut self, entry: Entry) -> bool
-        ensures is { result ≡ nat_lt (length (listed self.old)) 32 }
-        ensures after { listed self.new ≡ (if result then listed self.old ++ entry ∷ [] else listed self.old) }
+    // One more entry at the end; if there are 32, nothing changes.
+    pub fn push(&mut self, entry: Entry) -> Result<(), ListFull>
+        ensures is { is_ok result ≡ nat_lt (length (listed self.old)) 32 }
+        ensures after { listed self.new ≡ (if is_ok result then listed self.old ++ entry ∷ [] else listed self.old) }
     {
         if self.count == MOST_ENTRIES {
-            return false;
+            return Err(ListFull);
         }
         self.list[self.count] = entry;
         self.count += 1;
-        true
+        Ok(())
     }
 
     pub fn as_slice(&self) -> &[Entry]

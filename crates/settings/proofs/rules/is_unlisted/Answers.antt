@@ -1,20 +1,12 @@
-use Rattle.std.proofs.Common.{sym, ◌∙◌, arith}
-use Rattle.std.proofs.lemmas.Bool.{and_left, not_from_true, not_from_false, eq-eqb, ne_eqb}
-use Rattle.settings.specs.Values.{entry}
-use Rattle.settings.specs.Valid.{unlisted}
-use Rattle.settings.proofs.Scan.{here, done}
+-- Each entry is tested.
+use Rattle.std.proofs.Common.{rules, tests, not, eqb}
+use Rattle.std.proofs.lemmas.Iterator.{YieldsList-from_slice}
+use Rattle.std.proofs.lemmas.Iterator.Search.{all_from_yields_List}
+use Rattle.mti.specs.Identifiers.{plain}
+use Rattle.settings.specs.declared.record.Entry.{Entry}
 use Rattle.settings.proofs.rules.is_unlisted.Goals as goal
 
-pub returns-then-entry-channel : goal.returns-then-entry-channel
-returns-then-entry-channel c =
-    sym (and_left _ _ (not_from_true _ (eq-eqb _ _ c.if-entry-channel.true)))
-    ∙ here (unlisted c.args.channel) c.args.entries.now c.loop-entry.entry-index (entry 0 0) (omega arith) c.loop-entry.invariant
-
-pub loop-entry-preserved : goal.loop-entry-preserved
-loop-entry-preserved c =
-    let n = not_from_false _ (ne_eqb _ _ c.if-entry-channel.false) in
-    let h = here (unlisted c.args.channel) c.args.entries.now c.loop-entry.entry-index (entry 0 0) (omega arith) c.loop-entry.invariant in
-    rw n at h
-
 pub returns : goal.returns
-returns c = done (unlisted c.args.channel) c.args.entries.now c.loop-entry.entry-index (omega arith) c.loop-entry.invariant
+returns c =
+    all_from_yields_List (λ (e : Entry). not (eqb (plain e.identifier) c.args.channel)) _ _ c.all.result c.all.ensures.ran
+    (YieldsList-from_slice c.args.entries.now cc) (λ x b q k. search (rules, tests))

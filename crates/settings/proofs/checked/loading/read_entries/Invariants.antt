@@ -5,4 +5,4 @@ use Rattle.settings.proofs.checked.loading.read_entries.Given as goal
 
 -- the entries so far
 abbrev pub invariant-loop-i : goal.invariant-loop-i
-invariant-loop-i l = listed l.entries ≡ entries_at l.bytes l.i
+invariant-loop-i l = listed l.entries ≡ entries_at l.image l.i

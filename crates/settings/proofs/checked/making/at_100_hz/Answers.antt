@@ -1,5 +1,6 @@
 use Rattle.std.proofs.Common.{map, get_or, take, sym, ap, ◌∙◌, arith}
 use Rattle.std.proofs.lemmas.List.{map_more, take_all, length-map, length-take}
+use Rattle.std.specs.Result.{is_ok}
 use Rattle.settings.specs.Values.{entry, listed}
 use Rattle.settings.proofs.Pushes.{pushed}
 use Rattle.settings.proofs.checked.making.at_100_hz.Goals as goal
@@ -9,7 +10,7 @@ loop-identifier-preserved c =
     let xs = c.args.identifiers.now in
     let i = c.loop-identifier.identifier-index in
     pushed (listed c.loop-identifier.entries) (listed c.push.new.self) (map (λ i. entry i 100) (take i xs)) (entry (get_or xs i 0) 100)
-    c.push.result c.push.ensures.is c.push.ensures.after c.loop-identifier.invariant (simp (length-map, length-take) (omega arith))
+    (is_ok c.push.result) c.push.ensures.is c.push.ensures.after c.loop-identifier.invariant (simp (length-map, length-take) (omega arith))
     ∙ sym (map_more (λ i. entry i 100) xs i 0 (omega arith))
 
 pub returns : goal.returns
