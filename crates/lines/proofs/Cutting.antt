@@ -1,22 +1,13 @@
 -- A list cut at the first of a byte, and its pieces between such bytes.
-use Rattle.std.proofs.Common.{◌≡◌, ℕ, suc, ◌+◌, ◌<◌, ◌≤◌, true, false, cond, eqb, List, [], ◌∷◌, ◌++◌, length, get_or, take, drop, sym, refl, ap, ◌∙◌, ⊎_elim}
-use Rattle.std.specs.List.{AllByRecursion}
-use Rattle.std.proofs.lemmas.List.{at_drop_more, at_drop_all, take_at, drop_at, length-append}
-use Rattle.std.proofs.lemmas.Bool.{eq-eqb, ne_eqb, eqb-false, cases_Bool}
+use Rattle.std.proofs.Common.{Bool, ◌≡◌, ℕ, ◌+◌, true, false, cond, eqb, List, [], ◌∷◌, ◌++◌, length, take, drop, Option, unwrap_or, sym, refl, ap, ◌∙◌, ⊎_elim, arith}
+use Rattle.std.specs.Prelude.{◌==◌}
+use Rattle.std.specs.List.{AllByRecursion, position, position_or_len}
+use Rattle.std.proofs.lemmas.List.Recursion.{is_position_or_len}
+use Rattle.std.proofs.lemmas.Grind.{common_steps}
+use Rattle.std.proofs.lemmas.List.Sums.{prefix_len-le-length}
+use Rattle.std.proofs.lemmas.List.{take_at, drop_at, length-append}
+use Rattle.std.proofs.lemmas.Bool.{eqb-false, cases_Bool}
 use Rattle.lines.specs.Cuts.{before, from, on_first, pieces}
-
--- ---- a search for the byte c
-
-pub before_here : (c : ℕ) (xs : List ℕ) (i : ℕ) → i < length xs → get_or xs i 0 ≡ c → length (before c (drop i xs)) ≡ 0
-before_here c xs i h e =
-    at_drop_more (λ ys. length (before c ys)) xs i 0 h ∙ ap (λ t. length (cond t [] (get_or xs i 0 ∷ before c (drop (i + 1) xs)))) (eq-eqb (get_or xs i 0) c e)
-
-pub before_more : (c : ℕ) (xs : List ℕ) (i : ℕ) → i < length xs → (get_or xs i 0 ≡ c → ⊥) → length (before c (drop i xs)) ≡ suc (length (before c (drop (i + 1) xs)))
-before_more c xs i h e =
-    at_drop_more (λ ys. length (before c ys)) xs i 0 h ∙ ap (λ t. length (cond t [] (get_or xs i 0 ∷ before c (drop (i + 1) xs)))) (ne_eqb (get_or xs i 0) c e)
-
-pub before_all : (c : ℕ) (xs : List ℕ) (i : ℕ) → length xs ≤ i → length (before c (drop i xs)) ≡ 0
-before_all c xs i h = at_drop_all (λ ys. length (before c ys)) xs i h
 
 -- ---- the two parts
 
@@ -36,6 +27,15 @@ take_before c xs = ap (take (length (before c xs))) (sym (before_from c xs)) ∙
 
 pub drop_before : (c : ℕ) (xs : List ℕ) → drop (length (before c xs)) xs ≡ from c xs
 drop_before c xs = ap (drop (length (before c xs))) (sym (before_from c xs)) ∙ drop_at (before c xs) (from c xs) _ refl
+
+pub place : (p : ℕ → Bool) (xs : List ℕ) (r : Option ℕ) → r ≡ position p xs → unwrap_or r (length xs) ≡ position_or_len p xs
+place p xs r e = ap (λ q. unwrap_or q (length xs)) e ∙ grind (arith, common_steps, prefix_len-le-length)
+
+pub reach : (c : ℕ) (xs : List ℕ) (r : Option ℕ) → r ≡ position (λ x. x == c) xs → unwrap_or r (length xs) ≡ length (before c xs)
+reach c xs r e = place _ xs r e ∙ sym (is_position_or_len (λ ys. length (before c ys)) (λ y. y == c) refl by xs)
+  where
+    by : (x : ℕ) (ys : List ℕ) → length (before c (x ∷ ys)) ≡ cond (x == c) 0 (1 + length (before c ys))
+    by x ys = elim (x == c) as (λ t. length (cond t [] (x ∷ before c ys)) ≡ cond t 0 (1 + length (before c ys))) [ true ↦ refl | false ↦ omega arith ]
 
 pub none_before : (c : ℕ) (xs : List ℕ) → AllByRecursion (λ x. x ≡ c → ⊥) (before c xs)
 none_before c [] = tt

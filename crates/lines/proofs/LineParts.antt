@@ -1,28 +1,32 @@
 -- The first line of a text, its end and the rest are the text, and it is the first of all lines.
-use Rattle.std.proofs.Common.{◌≡◌, ℕ, zero, suc, ◌+◌, ◌<◌, Bool, true, false, cond, eqb, List, [], ◌∷◌, ◌++◌, length, get_or, take, drop, Some, None, Option, sym, refl, ap, ◌∙◌, subst, ⊎_elim, arith, Bor, MatchOption}
+use Rattle.std.proofs.Common.{◌-◌, unwrap_or, ◌≡◌, ℕ, zero, suc, ◌+◌, ◌<◌, Bool, true, false, cond, eqb, List, [], ◌∷◌, ◌++◌, length, take, drop, Some, None, Option, sym, refl, ap, ◌∙◌, subst, ⊎_elim, arith, Bor, MatchOption}
 use Rattle.std.specs.Option.{option_map}
 use Rattle.std.specs.List.{AllByRecursion}
+use Rattle.std.specs.Cmp.Lexicographic.{pointwise}
 use Rattle.std.proofs.lemmas.List.{append-nil, append_assoc, length-drop, length_push, same_from_push}
-use Rattle.std.proofs.lemmas.Bool.{eqb-true, eqb-false, eq-eqb, ne_eqb, cases_Bool, true≢false}
+use Rattle.std.proofs.lemmas.Bool.{eqb-true, eqb-false, cases_Bool, true≢false}
 use Rattle.lines.specs.Cuts.{before, from, seen}
 use Rattle.lines.specs.Lines.{without_return, next_line, ended, lines_of, LineOf}
 use Rattle.lines.proofs.Cutting.{before_from, length_parts, none_before, behind, pieces_cut}
 
 -- ---- the carriage return
 
-pub return_off : (xs : List ℕ) (n : ℕ) → length xs ≡ n + 1 → get_or xs n 0 ≡ 13 → take n xs ≡ without_return xs
-return_off [] n h e = absurd (omega arith)
-return_off (x ∷ []) zero h e = rw (eq-eqb x 13 e) refl
-return_off (x ∷ []) (suc n) h e = absurd (omega arith)
-return_off (x ∷ y ∷ ys) zero h e = absurd (omega arith)
-return_off (x ∷ y ∷ ys) (suc n) h e = ap (λ l. x ∷ l) (return_off (y ∷ ys) n (omega arith) e)
+return_off : (xs : List ℕ) (n : ℕ) → length xs ≡ n + 1 → without_return xs ≡ cond (pointwise eqb (drop n xs) (13 ∷ [])) (take n xs) xs
+return_off [] n h = absurd (omega arith)
+return_off (x ∷ []) zero h = ⊎_elim (λ e. rw e refl) (λ e. rw e refl) (cases_Bool (eqb x 13))
+return_off (x ∷ []) (suc n) h = absurd (omega arith)
+return_off (x ∷ y ∷ ys) zero h = absurd (omega arith)
+return_off (x ∷ y ∷ ys) (suc n) h =
+    ap (λ l. x ∷ l) (return_off (y ∷ ys) n (omega arith))
+    ∙ (elim (pointwise eqb (drop n (y ∷ ys)) (13 ∷ [])) as (λ t. x ∷ cond t (take n (y ∷ ys)) (y ∷ ys) ≡ cond t (x ∷ take n (y ∷ ys)) (x ∷ y ∷ ys)) [ true ↦ refl | false ↦ refl ])
 
-pub no_return : (xs : List ℕ) (n : ℕ) → length xs ≡ n + 1 → (get_or xs n 0 ≡ 13 → ⊥) → without_return xs ≡ xs
-no_return [] n h e = refl
-no_return (x ∷ []) zero h e = rw (ne_eqb x 13 e) refl
-no_return (x ∷ []) (suc n) h e = absurd (omega arith)
-no_return (x ∷ y ∷ ys) zero h e = absurd (omega arith)
-no_return (x ∷ y ∷ ys) (suc n) h e = ap (λ l. x ∷ l) (no_return (y ∷ ys) n (omega arith) e)
+last_off : (xs : List ℕ) → without_return xs ≡ cond (pointwise eqb (drop (length xs - 1) xs) (13 ∷ [])) (take (length xs - 1) xs) xs
+last_off [] = refl
+last_off (x ∷ xs) = return_off (x ∷ xs) (length (x ∷ xs) - 1) (omega arith)
+
+pub stripped : (line : Bor (List ℕ)) (r : Option (Bor (List ℕ))) → MatchOption r (pointwise eqb (drop (length line.now - 1) line.now) (13 ∷ []) ≡ false) (λ x. (pointwise eqb (drop (length line.now - 1) line.now) (13 ∷ []) ≡ true) × (x.now ≡ take (length line.now - 1) line.now) × (length x.now + 1 ≡ length line.now)) → (unwrap_or r line).now ≡ without_return line.now
+stripped line None h = sym (last_off line.now ∙ (rw h refl))
+stripped line (Some x) h = h.1 ∙ sym (last_off line.now ∙ (rw h.0 refl))
 
 record Trimmed (xs : List ℕ) : Type 0 where
   pub return : Bool
@@ -76,6 +80,14 @@ stopped c (x ∷ xs) =
     (λ e. record { stop = true; whole = rw e (ap (λ z. z ∷ xs) (sym (eqb-true x c e))); last = λ f. absurd (true≢false f) })
     (λ e. let r = stopped c xs in record { stop = r.stop; whole = rw e r.whole; last = rw e r.last })
     (cases_Bool (eqb x c))
+
+none_fed : (xs : List ℕ) → pointwise eqb (take 1 (from 10 xs)) (10 ∷ []) ≡ false → from 10 xs ≡ drop 1 (from 10 xs)
+none_fed [] h = refl
+none_fed (x ∷ xs) h = ⊎_elim (λ e. absurd (true≢false (rw e at (rw e at h)))) (λ e. rw e (none_fed xs (rw e at h))) (cases_Bool (eqb x 10))
+
+pub feed_off : (text : List ℕ) (end : Bor (List ℕ)) (r : Option (Bor (List ℕ))) → end.now ≡ from 10 text → MatchOption r (pointwise eqb (take 1 end.now) (10 ∷ []) ≡ false) (λ x. (pointwise eqb (take 1 end.now) (10 ∷ []) ≡ true) × (x.now ≡ drop 1 end.now) × (length x.now + 1 ≡ length end.now)) → (unwrap_or r end).now ≡ drop 1 (from 10 text)
+feed_off text end None e h = e ∙ none_fed text (rw e at h)
+feed_off text end (Some x) e h = h.1 ∙ ap (drop 1) e
 
 -- ---- the line and the rest
 

@@ -1,26 +1,26 @@
 -- The spaces, the first word and the rest are the line, and it is the first of all words.
-use Rattle.std.proofs.Common.{◌≡◌, ℕ, suc, ◌+◌, ◌-◌, ◌<◌, false, eqb, List, [], ◌∷◌, ◌++◌, length, get_or, take, drop, replicate, Some, None, filter, Option, sym, refl, ap, ◌∙◌, subst, ⊎_elim, arith, Bor, MatchOption}
+use Rattle.std.proofs.Common.{not, position, unwrap_or, ◌≡◌, ℕ, suc, ◌+◌, ◌<◌, false, eqb, List, [], ◌∷◌, ◌++◌, length, get_or, drop, replicate, Some, None, filter, Option, sym, refl, ap, ◌∙◌, subst, ⊎_elim, arith, Bor, MatchOption}
 use Rattle.std.specs.Option.{option_map}
-use Rattle.std.specs.List.{AllByRecursion}
-use Rattle.std.proofs.lemmas.List.{take_rest, length-append}
-use Rattle.std.proofs.lemmas.Bool.{eqb-true, eq-eqb, ne_eqb, cases_Bool}
+use Rattle.std.specs.Prelude.{◌==◌}
+use Rattle.std.specs.List.{AllByRecursion, position_or_len}
+use Rattle.std.proofs.lemmas.List.{length-append}
+use Rattle.std.proofs.lemmas.Bool.{eqb-true, cases_Bool}
 use Rattle.lines.specs.Cuts.{before, from, seen}
 use Rattle.lines.specs.Words.{past_spaces, word_at, next_word, some, words_of, WordOf}
-use Rattle.lines.proofs.Cutting.{before_from, none_before, behind, pieces_cut}
+use Rattle.lines.proofs.Cutting.{place, before_from, none_before, behind, pieces_cut}
 
 -- ---- the spaces
 
-pub space_passed : (xs : List ℕ) → 0 < length xs → get_or xs 0 0 ≡ 32 → past_spaces (take (length xs - 1) (drop 1 xs)) ≡ past_spaces xs
-space_passed [] h e = absurd (omega arith)
-space_passed (x ∷ xs) h e = ap past_spaces (take_rest (x ∷ xs) 1) ∙ (rw (eq-eqb x 32 e) refl)
+behind_spaces : (xs : List ℕ) → drop (position_or_len (λ x. not (x == 32)) xs) xs ≡ past_spaces xs
+behind_spaces [] = refl
+behind_spaces (x ∷ xs) =
+    ⊎_elim (λ e. rw e (ap (λ n. drop n (x ∷ xs)) (one_more _) ∙ behind_spaces xs)) (λ e. rw e refl) (cases_Bool (eqb x 32))
+  where
+    one_more : (n : ℕ) → 1 + n ≡ suc n
+    one_more n = omega arith
 
-pub empty_past : (xs : List ℕ) → length xs < 1 → past_spaces xs ≡ xs
-empty_past [] h = refl
-empty_past (x ∷ xs) h = absurd (omega arith)
-
-pub no_space : (xs : List ℕ) → (get_or xs 0 0 ≡ 32 → ⊥) → past_spaces xs ≡ xs
-no_space [] n = refl
-no_space (x ∷ xs) n = rw (ne_eqb x 32 n) refl
+pub spaces_passed : (xs : List ℕ) (r : Option ℕ) → r ≡ position (λ x. not (x == 32)) xs → drop (unwrap_or r (length xs)) xs ≡ past_spaces xs
+spaces_passed xs r e = ap (λ n. drop n xs) (place _ xs r e) ∙ behind_spaces xs
 
 spaces_whole : (xs : List ℕ) → (n : ℕ) × (replicate n 32 ++ past_spaces xs ≡ xs)
 spaces_whole [] = (0, refl)

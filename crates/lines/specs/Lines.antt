@@ -1,6 +1,8 @@
 -- The lines of a text. Assumes nothing.
-use Rattle.std.specs.Prelude.{◌≡◌, ℕ, ◌<◌, Bool, false, cond, List, [], ◌∷◌, ◌++◌, length, drop, Some, None, Option, ◌==◌, ◌≢◌}
+use Rattle.std.specs.Prelude.{◌≡◌, ℕ, ◌<◌, Bool, false, cond, List, [], ◌∷◌, ◌++◌, length, drop, Some, None, Option, MatchOption, ◌==◌, ◌≢◌}
+use Rattle.std.specs.Borrow.{Bor}
 use Rattle.std.specs.List.{AllByRecursion}
+use Rattle.lines.specs.declared.text.Lines.{Lines}
 use Rattle.lines.specs.Cuts.{before, from, pieces}
 
 -- a line without one carriage return at its end
@@ -39,3 +41,7 @@ pub record LineOf (text line rest : List ℕ) : Type 0 where
   -- a carriage return at the end is no part of the line
   pub bare : return ≡ false → (front : List ℕ) → line ≢ front ++ 13 ∷ []
   pub shorter : length rest < length text
+
+-- a call of `next` at s that gives r and leaves t
+abbrev pub line_steps : Lines → Option (Bor (List ℕ)) → Lines → Type 0
+line_steps s r t = MatchOption r (lines_of s.rest.now ≡ []) (λ l. lines_of s.rest.now ≡ l.now ∷ lines_of t.rest.now)

@@ -1,6 +1,8 @@
 -- The words of a line. Assumes nothing.
-use Rattle.std.specs.Prelude.{◌≡◌, ℕ, ◌<◌, Bool, true, false, cond, List, [], ◌∷◌, ◌++◌, length, replicate, Some, None, filter, Option, ◌==◌, ◌≢◌, slice_index}
+use Rattle.std.specs.Prelude.{◌≡◌, ℕ, ◌<◌, Bool, true, false, cond, List, [], ◌∷◌, ◌++◌, length, replicate, Some, None, filter, Option, MatchOption, ◌==◌, ◌≢◌, slice_index}
+use Rattle.std.specs.Borrow.{Bor}
 use Rattle.std.specs.List.{AllByRecursion}
+use Rattle.lines.specs.declared.words.Words.{Words}
 use Rattle.lines.specs.Cuts.{before, from, pieces}
 
 -- a line without the spaces at its front
@@ -38,3 +40,7 @@ pub record WordOf (line word rest : List ℕ) : Type 0 where
   -- a space stands behind the word, or nothing does
   pub parted : 0 < length rest → slice_index rest 0 ≡ 32
   pub shorter : length rest < length line
+
+-- a call of `next` at s that gives r and leaves t
+abbrev pub word_steps : Words → Option (Bor (List ℕ)) → Words → Type 0
+word_steps s r t = MatchOption r (words_of s.rest.now ≡ []) (λ w. words_of s.rest.now ≡ w.now ∷ words_of t.rest.now)

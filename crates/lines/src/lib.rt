@@ -11,5 +11,5 @@ mod words;
 pub use decimal::decimal_of;
 pub use hex::{byte_of, digits};
 pub use print::push_bytes;
-pub use text::next_line;
-pub use words::{LineFault, bytes_of, next_word};
+pub use text::{Lines, lines_in, next_line};
+pub use words::{LineFault, Words, bytes_of, next_word, words_in};

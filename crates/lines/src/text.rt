@@ -1,33 +1,21 @@
 // A text read line by line.
-ghost use Rattle.std.specs.Prelude.{◌≡◌, [], ◌∷◌, drop, MatchOption};
+ghost use Rattle.std.specs.Prelude.{◌≡◌, [], ◌∷◌, length, MatchOption};
 ghost use Rattle.std.specs.Option.{option_map};
+ghost use Rattle.std.specs.Iterator.{at_most};
 ghost use Rattle.lines.specs.Cuts.{seen};
-ghost use Rattle.lines.specs.Lines.{without_return, next_line, lines_of, LineOf};
+ghost use Rattle.lines.specs.Lines.{without_return, next_line, lines_of, LineOf, line_steps};
 
 use crate::cut::cut;
 
-const FEED: u8 = 10;
+const FEED: u8 = b'\n';
 
-const RETURN: u8 = 13;
+const RETURN: u8 = b'\r';
 
 // The line without one carriage return at its end.
 fn without_return(line: &[u8]) -> &[u8]
     ensures { result.now ≡ without_return line.now }
 {
-    let [front @ .., last] = line else {
-        return line;
-    };
-    if *last == RETURN { front } else { line }
-}
-
-// What stands behind the first byte, if there is one.
-fn behind_first(text: &[u8]) -> &[u8]
-    ensures { result.now ≡ drop 1 text.now }
-{
-    match text {
-        [_, rest @ ..] => rest,
-        [] => text,
-    }
+    line.strip_suffix(&[RETURN]).unwrap_or(line)
 }
 
 // The first line of a text, without its end, and the text behind it.
@@ -40,5 +28,32 @@ pub fn next_line(text: &[u8]) -> Option<(&[u8], &[u8])>
         return None;
     }
     let (line, end) = cut(text, FEED);
-    Some((without_return(line), behind_first(end)))
+    let rest = end.strip_prefix(&[FEED]).unwrap_or(end);
+    Some((without_return(line), rest))
+}
+
+// The lines of a text, in order and without their ends.
+#[derive(Clone, Copy)]
+pub struct Lines<'a> {
+    rest: &'a [u8],
+}
+
+pub fn lines_in(text: &[u8]) -> Lines<'_>
+    ensures { result.rest.now ≡ text.now }
+{
+    Lines { rest: text }
+}
+
+impl<'a> Iterator for Lines<'a> {
+    type Item = &'a [u8];
+
+    ghost next_gives = { line_steps };
+
+    ghost remaining = { λ s. at_most (length s.rest.now) };
+
+    fn next(&mut self) -> Option<&'a [u8]> {
+        let (line, rest) = next_line(self.rest)?;
+        self.rest = rest;
+        Some(line)
+    }
 }

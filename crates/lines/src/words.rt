@@ -1,21 +1,22 @@
 // A line read word by word.
-ghost use Rattle.std.specs.Prelude.{◌≡◌, [], ◌∷◌, Some, MatchOption, MatchResult};
+ghost use Rattle.std.specs.Prelude.{◌≡◌, ◌==◌, not, [], ◌∷◌, length, position, Some, MatchOption, MatchResult};
 ghost use Rattle.std.specs.Option.{option_map};
+ghost use Rattle.std.specs.Iterator.{at_most};
 ghost use Rattle.std.specs.List.{AllByRecursion};
 ghost use Rattle.lines.specs.Bytes.{bytes_of};
 ghost use Rattle.lines.specs.Faults.{Faulty};
 ghost use Rattle.lines.specs.declared.words.LineFault.TheVariants.{Memory};
 ghost use Rattle.lines.specs.Cuts.{seen};
-ghost use Rattle.lines.specs.Words.{past_spaces, next_word, words_of, WordOf};
+ghost use Rattle.lines.specs.Words.{past_spaces, next_word, words_of, WordOf, word_steps};
 
 use crate::cut::cut;
 use crate::hex::byte_of;
 use std::alloc::{AllocError, AllocFailed, Global};
 
-const SPACE: u8 = 32;
+const SPACE: u8 = b' ';
 
 // Why the bytes of a line cannot be read.
-#[derive(Drop)]
+#[derive(Clone, Copy, Debug, PartialEq, Eq)]
 pub enum LineFault {
     // a word is not a pair of hexadecimal digits
     NotAByte,
@@ -39,17 +40,19 @@ impl<T: Drop> From<AllocFailed<T>> for LineFault {
     }
 }
 
+// The place of the first byte that is not `skipped`.
+fn first_other(line: &[u8], skipped: u8) -> Option<usize>
+    ensures { result ≡ position (λ b. not (b == skipped)) line.now }
+{
+    line.iter().position(|b| *b != skipped)
+}
+
 // The line from its first byte on that is no space.
 fn past_spaces(line: &[u8]) -> &[u8]
     ensures { result.now ≡ past_spaces line.now }
 {
-    let mut rest = line;
-    while let [first, after @ ..] = rest
-        && *first == SPACE
-    {
-        rest = after;
-    }
-    rest
+    let spaces = first_other(line, SPACE).unwrap_or(line.len());
+    &line[spaces..]
 }
 
 // The first word of a line, and the line behind it.
@@ -65,18 +68,39 @@ pub fn next_word(line: &[u8]) -> Option<(&[u8], &[u8])>
     Some(cut(rest, SPACE))
 }
 
+// The words of a line, in order.
+#[derive(Clone, Copy)]
+pub struct Words<'a> {
+    rest: &'a [u8],
+}
+
+pub fn words_in(line: &[u8]) -> Words<'_>
+    ensures { result.rest.now ≡ line.now }
+{
+    Words { rest: line }
+}
+
+impl<'a> Iterator for Words<'a> {
+    type Item = &'a [u8];
+
+    ghost next_gives = { word_steps };
+
+    ghost remaining = { λ s. at_most (length s.rest.now) };
+
+    fn next(&mut self) -> Option<&'a [u8]> {
+        let (word, rest) = next_word(self.rest)?;
+        self.rest = rest;
+        Some(word)
+    }
+}
+
 // The bytes that the words of a line stand for.
 pub fn bytes_of(heap: Global, line: &[u8]) -> Result<Vec<u8>, LineFault>
     ensures { MatchResult result (λ v. bytes_of line.now ≡ Some v.items) (λ e. Faulty e line.now) }
 {
     let mut bytes = Vec::new(heap);
-    let mut rest = line;
-    while let Some((word, after)) = next_word(rest) {
-        let Some(byte) = byte_of(word) else {
-            return Err(LineFault::NotAByte);
-        };
-        bytes.push(byte)?;
-        rest = after;
+    for word in words_in(line) {
+        bytes.push(byte_of(word).ok_or(LineFault::NotAByte)?)?;
     }
     Ok(bytes)
 }

@@ -1,7 +1,7 @@
 -- The first line and the rest of a text.
-use Rattle.std.proofs.Common.{Some, rules}
+use Rattle.std.proofs.Common.{Some, ap, ◌∙◌, rules}
 use Rattle.std.proofs.lemmas.List.{nil_from_length}
-use Rattle.lines.proofs.LineParts.{line_cases, lines_cases, line_is}
+use Rattle.lines.proofs.LineParts.{feed_off, line_cases, lines_cases, line_is}
 use Rattle.lines.proofs.text.next_line.Goals as goal
 
 pub returns-then-is_empty : goal.returns-then-is_empty
@@ -11,9 +11,10 @@ returns-then-is_empty c =
 
 pub returns : goal.returns
 returns c =
-    let v = line_is c.args.text.now c.without_return.result c.behind_first.result (search rules) (search rules) (search rules) in
+    let rest = ap (λ s. s.now) c.unwrap_or-rest.ensures ∙ feed_off c.args.text.now c.cut.result.1 c.strip_prefix.result c.cut.ensures.back c.strip_prefix.ensures.cases in
+    let v = line_is c.args.text.now c.without_return.result c.unwrap_or-rest.result (search rules) (search rules) rest in
     record {
       value = v;
-      parts = line_cases (Some (c.without_return.result, c.behind_first.result)) c.args.text.now v;
-      lines = lines_cases (Some (c.without_return.result, c.behind_first.result)) c.args.text.now v;
+      parts = line_cases (Some (c.without_return.result, c.unwrap_or-rest.result)) c.args.text.now v;
+      lines = lines_cases (Some (c.without_return.result, c.unwrap_or-rest.result)) c.args.text.now v;
     }

@@ -1,4 +1,4 @@
--- The bytes so far and those of the rest are the line's; some stand there once the first word is a byte.
+-- The bytes so far and those of the words that are left are the line's; some stand there once the first word is a byte.
 use Rattle.std.proofs.Common.{◌≡◌, true, cond, eqb, length, vec_items}
 use Rattle.lines.specs.Words.{words_of}
 use Rattle.lines.specs.Bytes.{bytes_of}
@@ -7,9 +7,9 @@ use Rattle.lines.proofs.Reading.{onto}
 use Rattle.lines.proofs.words.bytes_of.Given as goal
 
 abbrev pub invariant-loop-word : goal.invariant-loop-word
-invariant-loop-word l =
-    (onto (vec_items l.bytes) (bytes_of l.rest) ≡ bytes_of l.line) ×
-    (cond (eqb (length (vec_items l.bytes)) 0) (first_is_byte (words_of l.rest)) true ≡ first_is_byte (words_of l.line))
-
-abbrev pub decreases-loop-word : goal.decreases-loop-word
-decreases-loop-word l = length l.rest
+invariant-loop-word l = record {
+  can_next : (goal.iterator-loop-word).can_next l.word-iterator;
+  is_finite : (goal.iterator-loop-word).is_finite l.word-iterator;
+  read : onto (vec_items l.bytes) (bytes_of l.word-iterator.rest.now) ≡ bytes_of l.line;
+  first : cond (eqb (length (vec_items l.bytes)) 0) (first_is_byte (words_of l.word-iterator.rest.now)) true ≡ first_is_byte (words_of l.line);
+}

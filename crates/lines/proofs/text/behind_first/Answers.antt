@@ -1,6 +1,0 @@
--- All but the first byte is what stands behind it.
-use Rattle.std.proofs.lemmas.List.{take_rest}
-use Rattle.lines.proofs.text.behind_first.Goals as goal
-
-pub returns-in-len1-up : goal.returns-in-len1-up
-returns-in-len1-up c = take_rest c.args.text.now 1
