@@ -7,7 +7,7 @@ ghost use Rattle.std.specs.Iterator.{at_most};
 use crate::settling::settle;
 
 // A part of a recording.
-#[derive(Clone, Copy)]
+#[derive(Clone, Copy, Debug, PartialEq)]
 pub enum Piece<'a> {
     // a frame that reading takes
     Frame(&'a [u8]),
