@@ -1,7 +1,8 @@
 // Frames, their front, the bytes that wait.
-use std::test::Fail;
 use stream::Waiting;
-use xbus::{Frame, Front, WriteError, at_front, first_frame, number, put_number, sum, write_frame};
+use xbus::{
+    Frame, Front, Header, WriteError, at_front, first_frame, number, put_number, sum, write_frame,
+};
 
 #[test]
 fn fronts(rt: HostRuntime) {
@@ -35,40 +36,26 @@ fn sums_and_numbers(rt: HostRuntime) {
 }
 
 #[test]
-fn written_and_read_back(rt: HostRuntime) -> Result<(), Fail> {
+fn written_and_read_back(rt: HostRuntime) {
     let mut tray = [0x55u8; 12];
     let frame = Frame {
-        address: 0xFF,
-        identifier: 0x01,
+        header: Header {
+            address: 0xFF,
+            identifier: 0x01,
+        },
         content: &[1, 2, 3, 4],
     };
-    match write_frame(&mut tray, 4, frame) {
-        Err(WriteError::NoRoom) => {}
-        _ => return Err(Fail::new("a frame of 9 bytes fits in 8")),
-    }
+    assert_eq!(rt; write_frame(&mut tray, 4, frame), Err(WriteError::NoRoom));
     assert_eq!(rt; tray[4], 0x55);
-    match write_frame(&mut tray, 3, frame) {
-        Ok(9) => {}
-        _ => return Err(Fail::new("a frame of 9 bytes does not fit in 9")),
-    }
+    assert_eq!(rt; write_frame(&mut tray, 3, frame), Ok(9));
     assert_eq!(rt; tray[2], 0x55);
     assert_eq!(rt; tray[11], 0xF2);
-    match first_frame(&tray[3..]) {
-        Some(read) => {
-            assert_eq!(rt; read.identifier, 0x01);
-            assert_eq!(rt; read.content, [1u8, 2, 3, 4].as_slice());
-            Ok(())
-        }
-        None => Err(Fail::new("no frame")),
-    }
+    assert_eq!(rt; first_frame(&tray[3..]), Some(frame));
 }
 
-// The identifier of the frame that waits, or FF.
-fn waiting_identifier(waiting: &Waiting) -> u8 {
-    match waiting.frame() {
-        Some(frame) => frame.identifier,
-        None => 0xFF,
-    }
+// The identifier of the frame that waits.
+fn waiting_identifier(waiting: &Waiting) -> Option<u8> {
+    waiting.frame().map(|frame| frame.header.identifier)
 }
 
 #[test]
@@ -77,7 +64,7 @@ fn one_byte_is_dropped(rt: HostRuntime) {
     for byte in [0xFA, 0xFA, 0xFF, 0x00, 0x00, 0x01] {
         let _ = waiting.take_byte(byte);
     }
-    assert_eq!(rt; waiting_identifier(&waiting), 0x00);
+    assert_eq!(rt; waiting_identifier(&waiting), Some(0x00));
     assert_eq!(rt; waiting.bytes().len(), 5);
 }
 
@@ -90,10 +77,10 @@ fn frames_inside_a_failed_frame(rt: HostRuntime) {
     for byte in frames {
         let _ = waiting.take_byte(byte);
     }
-    assert_eq!(rt; waiting_identifier(&waiting), 0x00);
+    assert_eq!(rt; waiting_identifier(&waiting), Some(0x00));
     assert!(rt; waiting.take_byte(0x00).is_err());
     waiting.pass();
-    assert_eq!(rt; waiting_identifier(&waiting), 0x12);
+    assert_eq!(rt; waiting_identifier(&waiting), Some(0x12));
     waiting.pass();
     assert!(rt; waiting.bytes().is_empty());
 }

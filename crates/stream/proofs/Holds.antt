@@ -1,12 +1,12 @@
 -- What the facts of the waiting buffer say of the bytes that it holds, and its steps.
-use Rattle.std.proofs.Common.{◌≡◌, ℕ, ◌+◌, ◌<◌, ◌≤◌, true, false, List, [], ◌∷◌, ◌++◌, length, take, drop, set, is_some, Some, None, Ok, Err, Option, sym, refl, ap, ◌∙◌, arith}
-use Rattle.std.proofs.lemmas.List.{length-take-le, take_more_set, take-set}
+use Rattle.std.proofs.Common.{◌≡◌, ℕ, ◌+◌, ◌<◌, ◌≤◌, false, List, [], ◌∷◌, ◌++◌, length, take, set, is_some, Some, None, Option, sym, refl, ap, ◌∙◌, arith}
+use Rattle.std.proofs.lemmas.List.{length-take-le, take_more_set}
 use Rattle.std.proofs.lemmas.Bool.{true≢false}
 use Rattle.stream.specs.declared.buffer.Waiting.{Waiting}
 use Rattle.xbus.specs.declared.front.Front.TheVariants.{Whole, Waits}
 use Rattle.xbus.specs.Front.{front_of}
-use Rattle.stream.specs.Settling.{settled, front_by, is_front_by}
-use Rattle.stream.specs.Waiting.{held, if_whole, taking, took, passed}
+use Rattle.stream.specs.Settling.{settled, front_by}
+use Rattle.stream.specs.Waiting.{held, if_whole, took}
 use Rattle.xbus.proofs.Fronts.{front_bounded}
 use Rattle.stream.proofs.Settles.{is_front_by_lem}
 
@@ -28,23 +28,13 @@ module _ (w : Waiting) where
       none None e = refl
 
   -- where no whole frame waits there is room for a byte
-  pub room_more : false ≡ is_some w.whole → w.len < 2055
+  room_more : false ≡ is_some w.whole → w.len < 2055
   room_more e = omega (arith, (front_bounded (held w)).waits (held_waits e), held_length)
 
   pub whole_within : (n : ℕ) → w.whole ≡ Some n → n ≤ w.len
   whole_within n e = let b = ((front_bounded (held w)).whole n (held_whole n e)).2 in omega (arith, held_length)
 
-  -- a byte behind those that wait leaves them
-  pub set_behind : (b : ℕ) → is_front_by (front_of (take w.len (set w.bytes w.len b))) w.whole ≡ true
-  set_behind b = ap (λ l. is_front_by (front_of l) w.whole) (take-set w.bytes w.len b) ∙ w.front
-
-  pub taking_byte : false ≡ is_some w.whole → Ok tt ≡ taking (held w)
-  taking_byte e = ap (λ f. if_whole f (λ _. Err (record {})) (Ok tt)) (sym (held_waits e))
-
   pub took_byte : (b : ℕ) (after : List ℕ) → false ≡ is_some w.whole → after ≡ settled (take (w.len + 1) (set w.bytes w.len b)) → after ≡ took (held w) b
   took_byte b after e a =
       a ∙ ap settled (take_more_set w.bytes w.len b (omega (arith, room_more e, w.size)))
       ∙ ap (λ f. if_whole f (λ _. held w) (settled (held w ++ (b ∷ [])))) (sym (held_waits e))
-
-  pub passed_frame : (n : ℕ) (after : List ℕ) → w.whole ≡ Some n → after ≡ settled (drop n (held w)) → after ≡ passed (held w)
-  passed_frame n after e a = a ∙ ap (λ f. if_whole f (λ k. settled (drop k (held w))) (held w)) (sym (held_whole n e))

@@ -1,14 +1,12 @@
 -- What is handed out of a recording next: by its cases, and as the first of the pieces.
-use Rattle.std.proofs.Common.{◌≡◌, ℕ, ◌<◌, ◌≤◌, true, false, eqb, ltb, List, [], ◌∷◌, ◌++◌, map, length, take, drop, Some, None, Option, sym, refl, ap, ◌∙◌, subst, ⊎_elim, arith, Bor, MatchOption}
-use Rattle.std.specs.Option.{option_map}
+use Rattle.std.proofs.Common.{◌≡◌, ℕ, ◌<◌, ◌≤◌, true, false, eqb, ltb, List, [], ◌∷◌, ◌++◌, map, length, take, drop, Some, None, Option, sym, refl, ap, ◌∙◌, subst, ⊎_elim, arith, MatchOption}
 use Rattle.std.proofs.lemmas.List.{length-drop, nil_from_length}
 use Rattle.std.proofs.lemmas.Bool.{ltb-true, ltb-false, eqb-true, lt-ltb, le-ltb, eq-eqb, ne_eqb, cond-true, cond-false, cases_lt, cases_Bool, eqb-false}
 use Rattle.xbus.specs.declared.front.Front.{Front}
 use Rattle.xbus.specs.declared.front.Front.TheVariants.{Whole, Waits, Wrong}
-use Rattle.stream.specs.declared.reading.Piece.{Piece as CodePiece}
 use Rattle.xbus.specs.Front.{front_of}
 use Rattle.stream.specs.Settling.{dropped, settled}
-use Rattle.stream.specs.Reading.{Piece, frame, stray, left, read_of, shown, seen_next, next_by, next_of}
+use Rattle.stream.specs.Reading.{Piece, frame, stray, left, read_of, next_by, next_of}
 use Rattle.xbus.proofs.Fronts.{front_bounded}
 use Rattle.stream.proofs.Readings.{read_none, read_whole, read_waits, read_settled}
 use Rattle.stream.proofs.Settles.{dropped_within, dropped_wrong}
@@ -76,6 +74,5 @@ next_first xs =
     (cases_Bool (ltb 0 (dropped xs)))
 
 -- the same of what the code hands out
-pub hands : (r : Option (CodePiece × Bor (List ℕ))) (xs : List ℕ) → option_map seen_next r ≡ next_of xs → MatchOption r (read_of xs ≡ []) (λ q. (read_of xs ≡ shown q.0 ++ read_of q.1.now) × (length q.1.now < length xs))
-hands None xs e = subst (First xs) (sym e) (next_first xs)
-hands (Some q) xs e = subst (First xs) (sym e) (next_first xs)
+pub hands : (xs : List ℕ) (r : Option (List Piece × List ℕ)) → r ≡ next_of xs → First xs r
+hands xs r e = subst (First xs) (sym e) (next_first xs)

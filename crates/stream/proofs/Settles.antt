@@ -7,7 +7,7 @@ use Rattle.xbus.specs.declared.front.Front.TheVariants.{Whole, Waits, Wrong}
 use Rattle.xbus.specs.Numbers.{Bytes}
 use Rattle.xbus.specs.Front.{front_of}
 use Rattle.xbus.specs.Frames.{Neither, FrontSaid}
-use Rattle.stream.specs.Settling.{unless_wrong, dropped, front_by, is_front_by, Settles}
+use Rattle.stream.specs.Settling.{unless_wrong, dropped, settled, front_by, is_front_by, Settles}
 use Rattle.xbus.proofs.Cases.{front_said}
 use Rattle.xbus.proofs.Fronts.{waits_not_wrong, whole_not_wrong}
 
@@ -57,6 +57,10 @@ pub record Reached (xs : List ℕ) (n : ℕ) : Type 0 where
   pub within : n ≤ length xs
   pub count : dropped xs ≡ n + dropped (drop n xs)
 
+not_wrong : (whole : Option ℕ) → front_by whole ≡ Wrong → ⊥
+not_wrong (Some n) e = whole_not_wrong n e
+not_wrong None e = waits_not_wrong e
+
 pub reached_none : (xs : List ℕ) → Reached xs 0
 reached_none xs = record { within = omega arith; count = sym (zero-add (dropped xs)) }
 
@@ -69,8 +73,13 @@ reached_more xs n r e =
     let s = dropped_wrong (drop n xs) e in
     record { within = omega (arith, reached_less xs n r e); count = omega (arith, r.count) }
 
-pub reached_all : (xs : List ℕ) (n : ℕ) → Reached xs n → (front_of (drop n xs) ≡ Wrong → ⊥) → n ≡ dropped xs
-reached_all xs n r not = omega (arith, r.count, dropped_none (drop n xs) not)
+-- a frame, or what waits, stands at the place that is reached
+module _ (xs : List ℕ) (n : ℕ) (r : Reached xs n) (whole : Option ℕ) (here : front_by whole ≡ front_of (drop n xs)) where
+  pub reached_all : n ≡ dropped xs
+  reached_all = omega (arith, r.count, dropped_none (drop n xs) (λ z. not_wrong whole (here ∙ z)))
+
+  pub reached_front : front_by whole ≡ front_of (settled xs)
+  reached_front = here ∙ ap (λ k. front_of (drop k xs)) reached_all
 
 -- ---- in the words of the protocol
 

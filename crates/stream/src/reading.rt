@@ -7,7 +7,7 @@ ghost use Rattle.std.specs.Iterator.{at_most};
 use crate::settling::settle;
 
 // A part of a recording.
-#[derive(Clone, Copy)]
+#[derive(Clone, Copy, Debug, PartialEq)]
 pub enum Piece<'a> {
     // a frame that reading takes
     Frame(&'a [u8]),
@@ -17,8 +17,12 @@ pub enum Piece<'a> {
     Left(&'a [u8]),
 }
 
-fn first_piece(bytes: &[u8]) -> Option<(Piece<'_>, &[u8])>
-    ensures { option_map seen_next result ≡ next_of bytes.now }
+// The first piece of the bytes, and the bytes behind it.
+pub fn next_piece(bytes: &[u8]) -> Option<(Piece<'_>, &[u8])>
+    ensures value { option_map seen_next result ≡ next_of bytes.now }
+    ensures hands { MatchOption result (read_of bytes.now ≡ []) (λ q. (read_of bytes.now ≡ shown q.0 ++ read_of q.1.now) × (length q.1.now < length bytes.now)) }
+    ensures said { ReadingSaid bytes.now }
+    ensures frames { FramesAreRead }
 {
     let found = settle(bytes);
     if found.dropped > 0 {
@@ -34,16 +38,6 @@ fn first_piece(bytes: &[u8]) -> Option<(Piece<'_>, &[u8])>
     }
     let (left, behind) = bytes.split_at(bytes.len());
     Some((Piece::Left(left), behind))
-}
-
-// The first piece of the bytes, and the bytes behind it.
-pub fn next_piece(bytes: &[u8]) -> Option<(Piece<'_>, &[u8])>
-    ensures value { option_map seen_next result ≡ next_of bytes.now }
-    ensures hands { MatchOption result (read_of bytes.now ≡ []) (λ q. (read_of bytes.now ≡ shown q.0 ++ read_of q.1.now) × (length q.1.now < length bytes.now)) }
-    ensures said { ReadingSaid bytes.now }
-    ensures frames { FramesAreRead }
-{
-    first_piece(bytes)
 }
 
 // The pieces of a recording, in order.

@@ -6,7 +6,7 @@ ghost use Rattle.stream.specs.Settling.{dropped, settled, front_by, Settles};
 use xbus::{Front, at_front};
 
 // How many bytes are dropped, and the size of the whole frame behind them, if there is one.
-#[derive(Clone, Copy)]
+#[derive(Clone, Copy, Debug, PartialEq)]
 pub struct Settled {
     pub dropped: usize,
     pub whole: Option<usize>,
@@ -19,22 +19,19 @@ pub fn settle(bytes: &[u8]) -> Settled
     ensures within { result.dropped ≤ length bytes.now }
     ensures settles { Settles bytes.now (dropped bytes.now) }
 {
-    let mut start = 0;
-    loop {
-        match at_front(&bytes[start..]) {
-            Front::Whole(size) => {
-                return Settled {
-                    dropped: start,
-                    whole: Some(size),
-                };
-            }
-            Front::Waits => {
-                return Settled {
-                    dropped: start,
-                    whole: None,
-                };
-            }
-            Front::Wrong => start += 1,
-        }
+    for start in 0..bytes.len() {
+        let whole = match at_front(&bytes[start..]) {
+            Front::Whole(size) => Some(size),
+            Front::Waits => None,
+            Front::Wrong => continue,
+        };
+        return Settled {
+            dropped: start,
+            whole,
+        };
+    }
+    Settled {
+        dropped: bytes.len(),
+        whole: None,
     }
 }

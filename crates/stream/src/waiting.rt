@@ -10,7 +10,7 @@ use crate::settling::settle;
 use xbus::{Frame, first_frame};
 
 // A whole frame waits, and no byte is taken before it is passed.
-#[derive(Clone, Copy)]
+#[derive(Clone, Copy, Debug, PartialEq)]
 pub struct FrameWaits;
 
 impl Waiting {
