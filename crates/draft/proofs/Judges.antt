@@ -98,16 +98,3 @@ module _ (source : List ℕ) (identifier place size start have room g : ℕ) (a 
       (is ∙ (λ j. encoded 0xFF 0x36 (there j ++ packet_bytes (item_of identifier (part_cut j))))) (sym k)
       (e ∙ sym (encoded_size 0xFF 0x36 d (omega (arith, a.short)) ∙ ap frame_size ld))
       ∙ ap (paste tray start (encoded 0xFF 0x36 d)) (e ∙ ap frame_size (sym lg))
-
-  -- what extending the frame asks for
-  pub extends : (tray : List ℕ) (f : ℕ) → room ≡ length tray → f ≡ frame_size g → (length (take (place + size - place) (drop place source)) ≤ 255) × ((g ≡ grown have (length (take (place + size - place) (drop place source)))) × (length (take (start + f - start) (drop start tray)) ≡ frame_size g))
-  extends tray f r e =
-      let l : length (take (place + size - place) (drop place source)) ≡ size = ap length part_cut ∙ part_length in
-      let k : start + f - start ≡ f = omega arith in (
-        omega (arith, l, a.byte),
-        (
-          omega (arith, a.is, l),
-          ap (λ m. length (take m (drop start tray))) k
-              ∙ length-take-le f (drop start tray) (omega (arith, length-drop start tray, a.fits)) ∙ e,
-        ),
-      )

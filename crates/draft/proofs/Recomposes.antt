@@ -1,11 +1,10 @@
 -- Composing the packets of a message one after the other.
-use Rattle.std.proofs.Common.{◌≡◌, ℕ, zero, suc, ◌+◌, ◌-◌, ◌*◌, ◌<◌, ◌≤◌, Bool, true, false, cond, ltb, List, [], ◌∷◌, ◌++◌, length, take, drop, is_ok, Ok, Err, Result, sym, refl, ap, ◌∙◌, subst, arith}
+use Rattle.std.proofs.Common.{◌≡◌, ℕ, zero, suc, ◌+◌, ◌-◌, ◌*◌, ◌<◌, ◌≤◌, Bool, true, false, cond, ltb, List, [], ◌∷◌, ◌++◌, length, take, drop, Ok, Err, Result, sym, refl, ap, ◌∙◌, subst, arith}
 use lib.Seq.{paste}
 use Rattle.std.specs.List.{flat_map}
 use Rattle.std.proofs.lemmas.List.Edits.{paste_none, length-paste, take-paste, drop-paste}
-use Rattle.std.proofs.lemmas.List.{append_assoc, append-nil, length-append, length-take-le, take_all, take_at, take-take, drop-drop, flat_map_more}
+use Rattle.std.proofs.lemmas.List.{append_assoc, length-append, length-take-le, take_all, take_at, take-take, drop-drop, flat_map_more}
 use Rattle.std.proofs.lemmas.Bool.{ltb-true}
-use Rattle.xbus.specs.Frames.{encoded}
 use Rattle.xbus.specs.Writing.{frame_size}
 use Rattle.xbus.proofs.Writes.{encoded_size}
 use Rattle.mti.specs.Identifiers.{data_size_of}
@@ -16,7 +15,7 @@ use Rattle.mtdata2.proofs.Rounds.{size_fits_lem}
 use Rattle.draft.specs.declared.draft.Draft.{Draft}
 use Rattle.draft.specs.declared.refusal.Refusal.{Refusal}
 use Rattle.draft.specs.declared.refusal.Refusal.TheVariants.{NoRoom}
-use Rattle.draft.specs.Composed.{frame_so_far, asked, grown, judged, answered, Holding, Added, Closed}
+use Rattle.draft.specs.Composed.{frame_so_far, asked, grown, judged, answered, Holding, Added}
 use Rattle.draft.specs.Round.{Recomposed}
 use Rattle.draft.proofs.Extends.{size_grows}
 use Rattle.draft.proofs.Holds.{frame_grows}
@@ -169,34 +168,10 @@ refused_packet input all m t tray u d i left content e k msg p c says back =
       no_room = λ h. (ap Err r.1, back ∙ p.start);
     }
 
--- ---- closed
-
-so_far_some : (all : List Item) → 0 < length all → frame_so_far all ≡ encoded 0xFF 0x36 (flat_map packet_bytes all)
-so_far_some [] h = absurd (omega arith)
-so_far_some (i ∷ is) h = refl
-
--- all packets stand in the tray, and the draft was closed
-recomposed : (input : List ℕ) (all : List Item) (m : ℕ) (t tray : List ℕ) (d : Draft) (r : Result (Unit {0}) Refusal) (k : ℕ) → MessageOf input all → Progress all m t tray d [] → ((items : List Item) (z : List ℕ) → Holding items z d → Closed items z d r) → k ≡ cond (is_ok r) d.mark.now d.lot.start → Recomposed input m t r k tray
-recomposed input all m t tray d r k msg p closes mark =
-    let same : p.done ≡ all = sym (append-nil p.done) ∙ p.split in
-    let some : 0 < length p.done = omega (arith, ap length same, msg.some) in
-    let frame : frame_so_far p.done ≡ input = ap frame_so_far same ∙ so_far_some all msg.some ∙ sym msg.is in
-    let ok : r ≡ Ok tt = (closes p.done tray p.holding).accepted some in
-    let fits = p.fits some in
-    let lf = ap length frame in
-    let at : k ≡ d.mark.now = mark ∙ ap (λ x. cond (is_ok x) d.mark.now d.lot.start) ok in
-    record {
-      room = λ h. (ok, omega (arith, at, p.holding.marked, p.start, lf), p.tray_is ∙ (λ j. paste t m (frame j) (lf j)));
-      no_room = λ h. absurd (omega arith);
-    }
-
--- ---- as the code has it: the mark began at n, and the answer came by `?` or by closing
+-- ---- as the code has it: the mark began at n, and the answer came by `?`
 
 module _ (input : List ℕ) (all : List Item) (m n : ℕ) (t tray : List ℕ) (d : Draft) (msg : MessageOf input all) (begun : m ≡ n) where
   pub refused_at : (u : List ℕ) (i : Item) (left : List Item) (content : List ℕ) (e : Refusal) (r : Result (Unit {0}) Refusal) (k : ℕ) → Progress all m t tray d (i ∷ left) → content ≡ i.bytes → Err e ≡ answered (judged (length content) i.identifier 0 (length content) d.lot.start d.lot.size.len (length tray)) → r ≡ Err e → k ≡ d.lot.start → Recomposed input n t r k u
   refused_at u i left content e r k p c says is back =
       subst (λ x. Recomposed input x t r k u) begun
       (subst (λ x. Recomposed input m t x k u) (sym is) (refused_packet input all m t tray u d i left content e k msg p c says back))
-
-  pub closed_at : (r : Result (Unit {0}) Refusal) (k : ℕ) → Progress all m t tray d [] → ((items : List Item) (z : List ℕ) → Holding items z d → Closed items z d r) → k ≡ cond (is_ok r) d.mark.now d.lot.start → Recomposed input n t r k tray
-  closed_at r k p closes mark = subst (λ x. Recomposed input x t r k tray) begun (recomposed input all m t tray d r k msg p closes mark)

@@ -1,9 +1,8 @@
 -- The frame of a message: what is read of a frame, and what it is that is read, or why it is refused.
-use Rattle.std.proofs.Common.{◌≡◌, ℕ, ◌+◌, ◌-◌, ◌*◌, ◌/◌, ◌%◌, ◌<◌, ◌≤◌, true, false, cond, ◌&&◌, eqb, ltb, leb, ◌⊎◌, List, [], ◌∷◌, ◌++◌, length, get_or, take, drop, Ok, Err, Result, sym, refl, ap, ◌∙◌, subst, inl, inr, ⊎_elim, arith}
-use Rattle.std.proofs.lemmas.List.{append_assoc, length-append, length-take-le, take_all, take_at, take_more, take_rest, drop_at}
-use Rattle.std.proofs.lemmas.Bool.{leb-true, leb-false, eqb-true, eqb-false, eq-eqb, ne_eqb, lt-ltb, le-ltb, le-leb, lt-leb, cond-true, cond-false, cases_lt, cases_Bool, and_parts, and_cases, and_from}
+use Rattle.std.proofs.Common.{◌≡◌, ℕ, ◌+◌, ◌*◌, ◌/◌, ◌%◌, ◌<◌, ◌≤◌, true, false, ◌&&◌, eqb, ltb, leb, ◌⊎◌, List, [], ◌∷◌, ◌++◌, length, get_or, take, drop, Ok, Err, Result, sym, refl, ap, ◌∙◌, subst, inl, inr, ⊎_elim, arith}
+use Rattle.std.proofs.lemmas.List.{append_assoc, length-append, length-take-le, take_all, take_at, take_more, drop_at}
+use Rattle.std.proofs.lemmas.Bool.{leb-true, leb-false, eqb-true, eqb-false, eq-eqb, lt-ltb, le-ltb, le-leb, lt-leb, cond-true, cond-false, cases_lt, cases_Bool, and_parts, and_cases, and_from}
 use Rattle.xbus.specs.Numbers.{Bytes}
-use Rattle.xbus.specs.declared.parts.Header.{Header}
 use Rattle.xbus.specs.Front.{total}
 use Rattle.xbus.specs.Frames.{header_of, checksum, enclosed, encoded}
 use Rattle.xbus.specs.Writing.{frame_size, content_start}
@@ -158,7 +157,7 @@ frame_back a i d h =
     (cond-true (leb 255 v && leb v 2048) _ _ fit ∙ ap (λ k. body_of a i 6 k (enclosed (hd ++ d))) same ∙ body_back hd d a i 6 refl))
     (cases_lt n 255)
 
--- ---- as the code has it: `&input[1..]` and `&input[start..start + n]`
+-- ---- sizes
 
 -- what stands around n data bytes
 pub frame_parts : (n : ℕ) → frame_size n ≡ content_start n + n + 1
@@ -167,23 +166,3 @@ frame_parts n =
     (λ l. let t = lt-ltb n 255 l in omega (arith, cond-true {A = ℕ} (ltb n 255) 4 6 t, cond-true {A = ℕ} (ltb n 255) (n + 5) (n + 7) t))
     (λ l. let t = le-ltb n 255 l in omega (arith, cond-false {A = ℕ} (ltb n 255) 4 6 t, cond-false {A = ℕ} (ltb n 255) (n + 5) (n + 7) t))
     (cases_lt n 255)
-
-module _ (h : Header) (n : ℕ) (xs : List ℕ) (s : ℕ) (size : length xs ≡ frame_size n) (summed : s ≡ total (take (length xs - 1) (drop 1 xs)) % 256) where
-  sum_is : s ≡ total (drop 1 xs) % 256
-  sum_is = summed ∙ ap (λ l. total l % 256) (take_rest xs 1)
-
-  abbrev body : Result Parts Report
-  body = body_of h.address h.identifier (content_start n) n xs
-
-  sized : body ≡ cond (eqb (total (drop 1 xs) % 256) 0) (Ok (record { address = h.address; identifier = h.identifier; start = content_start n; content = take n (drop (content_start n) xs) })) (frame_fault 17 (length xs - 1))
-  sized = cond-true (eqb (length xs) (content_start n + n + 1)) _ _ (eq-eqb _ _ (size ∙ frame_parts n))
-
-  pub body_unsealed : (s ≡ 0 → ⊥) → frame_fault 17 (length xs - 1) ≡ body
-  body_unsealed u = sym (sized ∙ cond-false (eqb (total (drop 1 xs) % 256) 0) _ _ (ne_eqb _ 0 (λ z. u (sum_is ∙ z))))
-
-  pub body_sealed : (start : ℕ) (content : List ℕ) → s ≡ 0 → start ≡ content_start n → content ≡ take (start + n - start) (drop start xs) → Ok (record { address = h.address; identifier = h.identifier; start = start; content = content }) ≡ body
-  body_sealed start content z b c =
-      let k : start + n - start ≡ n = omega arith in
-      let same : content ≡ take n (drop (content_start n) xs) = c ∙ (λ j. take (k j) (drop (b j) xs)) in
-      (λ j. Ok (record { address = h.address; identifier = h.identifier; start = b j; content = same j }))
-      ∙ sym (sized ∙ cond-true (eqb (total (drop 1 xs) % 256) 0) _ _ (eq-eqb _ 0 (sym sum_is ∙ z)))

@@ -1,4 +1,3 @@
-pub mod Cutting
 pub mod Runs
 pub mod Frames
 pub mod Rounds

@@ -12,7 +12,7 @@ use Rattle.mtdata2.specs.Packets.{Item, fits_by, size_fits, item_of, cut_by, cut
 use Rattle.mtdata2.specs.Reading.{Parts, frame_of, addressed, message_of, read_of}
 use Rattle.mtdata2.specs.Words.{data_start, MessageOf, Behind, Tells, other_address, other_identifier, no_packet, packet_cut, content_cut, wrong_size, ReadSaid}
 use Rattle.mtdata2.proofs.Frames.{Framed, Told, told_frame, parts_from, frame_back}
-use Rattle.mtdata2.proofs.Runs.{Good, good_cut}
+use Rattle.mtdata2.proofs.Runs.{good_cut}
 
 -- ---- one packet
 
@@ -52,9 +52,6 @@ module _ (h l n : ℕ) (xs : List ℕ) (hb : h < 256) (lb : l < 256) (nb : n < 2
         is = sym ((λ j. u j ∷ v j ∷ w j ∷ (take n xs ++ drop n xs)) ∙ ap (λ z. h ∷ l ∷ n ∷ z) (take-append-drop n xs));
         rest = bytes_drop n xs bs;
       }
-
-  cut_off : (q : Item × List ℕ) → Good (h * 256 + l) n xs q → CutOff h l n xs q
-  cut_off q g = subst (CutOff h l n xs) (sym g.is) (cut_off_is g.inside g.fits)
 
 -- a well-formed packet is cut off
 cut_back : (p : ℕ) (i : Item) (rest : List ℕ) → WellFormed i → cut_of p (packet_bytes i ++ rest) ≡ Ok (i, rest)

@@ -7,7 +7,6 @@ use Rattle.mtdata2.specs.declared.packet.Packet.{Packet}
 use Rattle.mtdata2.specs.Faults.{Report, packet_fault, and_then}
 use Rattle.mtdata2.specs.Packets.{Item, item_of, size_fits, cut_by, cut_of, packets_from, done, handed, handed_by, handed_out, ok_of, item, cut_seen}
 use Rattle.mtdata2.specs.Reading.{Parts, message_of, read_of}
-use Rattle.mtdata2.proofs.Cutting.{Cut}
 
 -- ---- results
 
@@ -33,6 +32,9 @@ done_ok (Ok items) e = (items, refl)
 done_ok (Err d) e = absurd (not_ok d tt e)
 
 -- ---- one packet
+
+abbrev Cut : Type 0
+Cut = Result (Item × List ℕ) Report
 
 -- what a packet that was cut off says
 pub record Good (i n : ℕ) (xs : List ℕ) (q : Item × List ℕ) : Type 0 where

@@ -1,7 +1,7 @@
 use Rattle.std.proofs.Common.{◌≡◌, length, Err, refl, ap, ◌∙◌, subst, rules}
 use Rattle.mtdata2.specs.Packets.{item, handed_out}
 use Rattle.draft.specs.Composed.{answered, judged}
-use Rattle.draft.proofs.Recomposes.{Progress, progress_none, progress_added, handed_asked, refused_at, closed_at}
+use Rattle.draft.proofs.Recomposes.{Progress, progress_none, progress_added, handed_asked, refused_at}
 use Rattle.draft.proofs.composing.compose.Goals as goal
 
 pub loop-packet-init : goal.loop-packet-init
@@ -49,13 +49,3 @@ returns-in_err-add c input msg =
     ∙ ap (λ k. answered (judged (length content) k 0 (length content) d.lot.start d.lot.size.len (length c.loop-packet.tray))) c.identifier.ensures in
     refused_at input all m c.args.mark.now t c.loop-packet.tray d msg c.begin-draft.ensures.old
     c.add.new.tray i left content e c.from_residual.result _ p c.content-content.ensures says (search rules) (search rules)
-
-pub returns : goal.returns
-returns c input msg =
-    let all = handed_out c.args.message.now.content.now in
-    let m = c.begin-draft.result.lot.start in
-    let t = c.args.tray.now in
-    let d = c.loop-packet.draft in
-    let p = subst (Progress all m t c.loop-packet.tray d) c.in-None.ensures.steps c.loop-packet.invariant.3 in
-    closed_at input all m c.args.mark.now t c.loop-packet.tray d msg c.begin-draft.ensures.old
-    c.close.result _ p c.close.ensures.reads (search rules)

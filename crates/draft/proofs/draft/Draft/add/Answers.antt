@@ -3,20 +3,11 @@ use Rattle.xbus.specs.Writing.{frame_size}
 use Rattle.xbus.proofs.Bytes.{bytes_all}
 use Rattle.draft.specs.Composed.{asked, grown}
 use Rattle.draft.proofs.Holds.{added}
-use Rattle.draft.proofs.Judges.{accepted, part_length, asked_well_formed, laid_is, extends}
+use Rattle.draft.proofs.Judges.{accepted, part_length, asked_well_formed, laid_is}
 use Rattle.draft.proofs.draft.Draft.add.Goals as goal
 
-pub extend_frame-requires : goal.extend_frame-requires
-extend_frame-requires c =
-    let s = c.args.source.now in
-    let t = c.args.tray.now in
-    let d = c.args.self.now in
-    let p = c.args.packet in
-    let a = accepted (length s) p.identifier p.place p.size d.lot.start d.lot.size.len (length t) c.in_ok-grown.grown.len c.in_ok-grown.ensures in
-    extends s p.identifier p.place p.size d.lot.start d.lot.size.len (length t) c.in_ok-grown.grown.len a t c.frame_size.result refl c.frame_size.ensures
-
-pub returns : goal.returns
-returns c =
+pub returns-clause-does : goal.returns-clause-does
+returns-clause-does c =
     let s = c.args.source.now in
     let t = c.args.tray.now in
     let d = c.args.self.now in
@@ -28,11 +19,5 @@ returns c =
     let gi : g ≡ grown d.lot.size.len (length i.bytes) = a.is ∙ ap (grown d.lot.size.len) (sym l) in
     let tray_is = laid_is s p.identifier p.place p.size d.lot.start d.lot.size.len (length t) g a t c.extend_frame.new.frame c.frame_size.result refl c.frame_size.ensures c.extend_frame.ensures in
     let well = asked_well_formed s p.identifier p.place p.size d.lot.start d.lot.size.len (length t) g a (search rules) (bytes_all s (λ k h. (c.type_inv.source k).fits)) in
-    record {
-      says = search rules;
-      lends = search rules;
-      old = search rules;
-      does =
-          added t _ d _ i well refl gi (ap (λ k. d.lot.start + k) (c.frame_size.ensures ∙ ap frame_size gi))
-          (subst (λ k. d.lot.start + frame_size k ≤ length t) gi a.fits) (subst (λ k. k ≤ 2048) gi a.short) tray_is;
-    }
+    added t _ d _ i well refl gi (ap (λ k. d.lot.start + k) (c.frame_size.ensures ∙ ap frame_size gi))
+    (subst (λ k. d.lot.start + frame_size k ≤ length t) gi a.fits) (subst (λ k. k ≤ 2048) gi a.short) tray_is

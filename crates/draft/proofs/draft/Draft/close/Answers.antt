@@ -2,9 +2,5 @@ use Rattle.std.proofs.Common.{rules}
 use Rattle.draft.proofs.Holds.{closed_full}
 use Rattle.draft.proofs.draft.Draft.close.Goals as goal
 
-pub returns : goal.returns
-returns c = record {
-  says = search rules;
-  mark = search rules;
-  reads = λ items tray h. closed_full items tray c.args.self h (search rules);
-}
+pub returns-clause-reads : goal.returns-clause-reads
+returns-clause-reads c items tray h = closed_full items tray c.args.self h (search rules)
