@@ -4,4 +4,3 @@ pub mod Runs
 pub mod Writes
 pub mod Calls
 pub mod Last
-pub mod Trials

@@ -1,8 +1,8 @@
 -- What save and load mean, by the length of the image or buffer and the writes left.
-use Rattle.std.proofs.Common.{◌≡◌, ℕ, ◌-◌, ◌<◌, true, false, eqb, ltb, List, length, Some, Ok, Err, Option, unwrap_or, refl, arith}
-use Rattle.std.proofs.lemmas.Bool.{eq-eqb, ne_eqb, lt-ltb, le-ltb, and_from, and_left, and_right}
+use Rattle.std.proofs.Common.{◌≡◌, ℕ, ◌-◌, ◌<◌, true, false, eqb, ltb, List, length, Some, Ok, Err, Option, refl, arith}
+use Rattle.std.proofs.lemmas.Bool.{eq-eqb, ne_eqb, lt-ltb, le-ltb, and_from, and_right}
 use Rattle.store.specs.declared.port.StoreError.TheVariants.{NoWritesLeft}
-use Rattle.store.specs.Meaning.{image_size, found, load_answer, buffer_after, save_answer, saves, held_after, left_after, memory_after}
+use Rattle.store.specs.Meaning.{image_size, save_answer, saves, held_after, left_after, memory_after}
 
 -- an image of the image size and a write left
 module _ (xs : List ℕ) (w : ℕ) (long : length xs ≡ image_size) (more : 0 < w) where
@@ -21,9 +21,6 @@ module _ (xs : List ℕ) (w : ℕ) (long : length xs ≡ image_size) (more : 0 <
   pub accepted_memory : (f : List ℕ → List ℕ → List ℕ) (bs : List ℕ) → memory_after f xs w bs ≡ f xs bs
   accepted_memory f bs = rw accepts refl
 
-pub refuses_length : (xs : List ℕ) (w : ℕ) → (length xs ≡ image_size → ⊥) → saves (length xs) w ≡ false
-refuses_length xs w ne = and_left (eqb (length xs) image_size) (ltb 0 w) (ne_eqb (length xs) image_size ne)
-
 pub refuses_none : (xs : List ℕ) (w : ℕ) → w ≡ 0 → saves (length xs) w ≡ false
 refuses_none xs w e = and_right (eqb (length xs) image_size) (ltb 0 w) (le-ltb 0 w (omega arith))
 
@@ -40,10 +37,3 @@ module _ (xs : List ℕ) (w : ℕ) (e : saves (length xs) w ≡ false) where
 
   pub refused_memory : (f : List ℕ → List ℕ → List ℕ) (bs : List ℕ) → memory_after f xs w bs ≡ bs
   refused_memory f bs = rw e refl
-
--- a load into a buffer of the image size
-pub sized_answer : (b : List ℕ) (h : Option (List ℕ)) → length b ≡ image_size → load_answer (length b) h ≡ Ok (found h)
-sized_answer b h e = rw (eq-eqb (length b) image_size e) refl
-
-pub sized_buffer : (b : List ℕ) (h : Option (List ℕ)) → length b ≡ image_size → buffer_after b h ≡ unwrap_or h b
-sized_buffer b h e = rw (eq-eqb (length b) image_size e) refl
