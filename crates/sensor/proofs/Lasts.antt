@@ -1,6 +1,9 @@
 -- What recorded rows mean, in words.
-use Rattle.std.proofs.Common.{◌≡◌, ℕ, true, false, eqb, leb, ◌⊎◌, List, [], ◌∷◌, ℤ, Some, None, fold, Option, sym, refl, ap, ◌∙◌, subst, inl, inr, ⊎_elim, arith}
-use Rattle.std.specs.Option.{option_map, option_flatten}
+use Rattle.std.proofs.Common.{◌≡◌, ℕ, Bool, true, false, cond, reverse, eqb, leb, ◌⊎◌, List, [], ◌∷◌, ℤ, Some, None, fold, Option, sym, refl, ap, ◌∙◌, subst, inl, inr, ⊎_elim, arith}
+use Rattle.std.specs.List.{find}
+use Rattle.std.specs.Option.{option_map, option_flatten, option_or}
+use Rattle.std.proofs.lemmas.Grind.{reverse_onto}
+use Rattle.std.proofs.lemmas.List.Folds.{find-append}
 use Rattle.std.proofs.lemmas.Int.{ints}
 use Rattle.std.proofs.lemmas.Bool.{cases_Bool, and_parts, and_from, eqb-true, eq-eqb, leb-true, le-leb, both_ways}
 use Rattle.mti.specs.declared.channel.Kind.{Kind}
@@ -75,6 +78,34 @@ module _ (c t : ℕ) where
   found f (x ∷ xs) =
       let g = chosen_of c t f x in
       found_more f x xs (fold (chosen_of c t) g xs) (found g xs)
+
+or_more : (a b f : Option Row) → option_or (option_or a b) f ≡ option_or a (option_or b f)
+or_more None b f = refl
+or_more (Some y) b f = refl
+
+or_none : (a : Option Row) → a ≡ option_or a None
+or_none None = refl
+or_none (Some y) = refl
+
+or_chosen : (b : Bool) (x : Row) (f : Option Row) → option_or (cond b (Some x) None) f ≡ cond b (Some x) f
+or_chosen true x f = refl
+or_chosen false x f = refl
+
+-- what is found from the end, or else what was found before
+from_end : (c t : ℕ) (f : Option Row) (rows : List Row)
+    → option_or (find (counts_at c t) (reverse rows)) f ≡ fold (chosen_of c t) f rows
+from_end c t f [] = refl
+from_end c t f (x ∷ xs) =
+    let p = counts_at c t in
+    let found = find p (reverse xs) in
+    ap (λ (ys : List Row). option_or (find p ys) f) (reverse_onto xs x [])
+    ∙ ap (λ (o : Option Row). option_or o f) (find-append p (reverse xs) (x ∷ []))
+    ∙ or_more found (find p (x ∷ [])) f
+    ∙ ap (option_or found) (or_chosen (counts_at c t x) x f)
+    ∙ from_end c t (chosen_of c t f x) xs
+
+pub last_from_end : (c t : ℕ) (rows : List Row) → find (counts_at c t) (reverse rows) ≡ last_of c t rows
+last_from_end c t rows = or_none _ ∙ from_end c t None rows
 
 -- ---- the reading
 

@@ -1,19 +1,20 @@
 -- The ranges of a channel's numbers, which every sensor keeps to. Assumes nothing.
-use Rattle.std.specs.Prelude.{◌≡◌, ℕ, ◌-◌, ◌^◌, ◌<◌, ℤ, pos, negsuc, ◌≤ℤ◌, ◌<ℤ◌, Some, Option}
+use Rattle.std.specs.Prelude.{◌≡◌, ℕ, ◌-◌, ◌^◌, ◌<◌, ℤ, pos, ◌≤ℤ◌, ◌<ℤ◌, Some, Option}
 use Rattle.std.specs.Int.{int_max, int_min}
 use Rattle.mti.specs.declared.channel.Channel.{Channel}
 use Rattle.mti.specs.declared.channel.Kind.{Kind}
 use Rattle.mti.specs.declared.channel.Kind.TheVariants.{Real, Whole}
+use Rattle.mti.specs.Readings.{lowest, highest}
 use Rattle.mti.specs.Table.{Bearer}
 use Rattle.sensor.specs.Questions.{count_of}
 
 -- real numbers, in units of 2^-32, lie from -2^47 to 2^47 - 1, whole ones from 0 to 2^32 - 1
 abbrev pub least_of : Kind → ℤ
-least_of (Real n) = negsuc (2 ^ 47 - 1)
+least_of (Real n) = lowest
 least_of (Whole w) = pos 0
 
 abbrev pub greatest_of : Kind → ℤ
-greatest_of (Real n) = pos (2 ^ 47 - 1)
+greatest_of (Real n) = highest
 greatest_of (Whole w) = pos (2 ^ 32 - 1)
 
 abbrev pub Within : Kind → ℤ → Type 0

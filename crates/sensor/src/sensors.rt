@@ -2,22 +2,23 @@
 ghost use Rattle.std.specs.Prelude.{◌≡◌, ℕ, ℤ, Option};
 ghost use Rattle.sensor.specs.Ranges.{InRange, Ranged};
 
-// A sensor means a number or none for each channel, index and tick. To ask it changes nothing.
-pub trait Sensor {
-    ghost meaning: { Self → ℕ → ℕ → ℕ → Option ℤ };
-
-    fn reading(&mut self, channel: u16, index: usize, tick: u32) -> Option<i64>
-        ensures answer { result ≡ meaning self.old channel index tick }
-        ensures stays { meaning self.new ≡ meaning self.old }
-        ensures range { Ranged (meaning self.old) };
-}
-
 // A channel, an index of its data, and a tick.
-#[derive(Clone, Copy)]
+#[derive(Clone, Copy, PartialEq, Debug)]
 pub struct Question {
     pub channel: u16,
     pub index: usize,
     pub tick: u32,
+}
+
+// A sensor means a number or none for each channel, index and tick. To ask it changes nothing.
+pub trait Sensor {
+    ghost meaning: { Self → ℕ → ℕ → ℕ → Option ℤ };
+
+    fn reading(&mut self, question: Question) -> Option<i64>
+        ensures answer { result ≡ meaning self.old question.channel question.index question.tick }
+        ensures stays { meaning self.new ≡ meaning self.old }
+        // Form: a clause and no law, since the proof of a law would stand in specs/, where no tactic stands.
+        ensures range { Ranged (meaning self.old) };
 }
 
 // The readings of one question and then of another, each as if it had been asked alone.
@@ -31,7 +32,7 @@ pub fn two_readings<S: Sensor>(
     ensures stays { S.Sensor.meaning sensor.new ≡ S.Sensor.meaning sensor.old }
     ensures range { InRange first.channel first.index result.0 × InRange second.channel second.index result.1 }
 {
-    let one = sensor.reading(first.channel, first.index, first.tick);
-    let other = sensor.reading(second.channel, second.index, second.tick);
+    let one = sensor.reading(first);
+    let other = sensor.reading(second);
     (one, other)
 }

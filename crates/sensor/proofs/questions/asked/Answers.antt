@@ -1,13 +1,17 @@
 -- What the look into the table answers, in words.
-use Rattle.std.proofs.Common.{ap, ◌∙◌}
-use Rattle.sensor.specs.Questions.{asked_of, kind_at}
+use Rattle.std.proofs.Common.{rules}
+use Rattle.sensor.specs.Questions.{asked_of}
 use Rattle.sensor.proofs.Answered.{asked_exactly, asked_few}
 use Rattle.sensor.proofs.questions.asked.Goals as goal
 
-pub returns : goal.returns
+pub returns-in_err-kind-clause-exact : goal.returns-in_err-kind-clause-exact
 unfolding asked_of
-returns c =
-    let id = c.args.channel in
-    let k = c.args.index in
-    let e = c.kind_at.ensures ∙ ap (kind_at k) c.measured.ensures in
-    record { is = e; exact = asked_exactly id k _ e; few = asked_few id k _ e }
+returns-in_err-kind-clause-exact c = asked_exactly c.args.channel c.args.index _ (search rules)
+
+pub returns-clause-exact : goal.returns-clause-exact
+unfolding asked_of
+returns-clause-exact c = asked_exactly c.args.channel c.args.index _ (search rules)
+
+pub returns-clause-few : goal.returns-clause-few
+unfolding asked_of
+returns-clause-few c = asked_few c.args.channel c.args.index _ (search rules)

@@ -1,24 +1,14 @@
--- One step of the loop, and its end.
-use Rattle.std.proofs.Common.{[], get_or, None, Option, sym, ap, ◌∙◌}
-use Rattle.std.proofs.lemmas.List.{take_all}
-use Rattle.std.proofs.lemmas.List.Sums.{fold_more}
-use Rattle.sensor.specs.declared.records.Row.{Row}
-use Rattle.sensor.specs.Records.{chosen_of, last_of}
+-- The first row that counts, from the end, is the last.
+use Rattle.std.proofs.Common.{◌∙◌, rules, tests}
+use Rattle.std.proofs.lemmas.Iterator.Adapters.{YieldsList-from_rev_slice}
+use Rattle.std.proofs.lemmas.Iterator.Search.{find_from_yields_List}
+use Rattle.sensor.specs.Records.{counts_at}
+use Rattle.sensor.proofs.Lasts.{last_from_end}
 use Rattle.sensor.proofs.records.last_row.Goals as goal
-
-pub loop-row-preserved : goal.loop-row-preserved
-loop-row-preserved c =
-    let id = c.args.channel in
-    let t = c.args.tick in
-    let rows = c.args.rows.now in
-    let i = c.loop-row.row-index in
-    let blank : Row = record { channel = 0; tick = 0; numbers = [] } in
-    c.chosen-found.ensures
-    ∙ ap (λ (found : Option Row). chosen_of id t found (get_or rows i blank)) c.loop-row.invariant
-    ∙ sym (fold_more (chosen_of id t) None rows i blank c.loop-row-test.true)
 
 pub returns : goal.returns
 returns c =
-    c.loop-row.invariant
-    ∙ ap (last_of c.args.channel c.args.tick)
-    (take_all c.loop-row.row-index c.args.rows.now c.loop-row-test.false)
+    c.copied.ensures
+    ∙ find_from_yields_List (counts_at c.args.question.channel c.args.question.tick) _ _ c.find.result c.find.ensures.ran
+    (YieldsList-from_rev_slice c.args.rows.now cc) (λ x b q k. search (rules, tests))
+    ∙ last_from_end c.args.question.channel c.args.question.tick c.args.rows.now
