@@ -5,18 +5,15 @@ use Rattle.mti.specs.declared.product.Product.{Product}
 use Rattle.mti.specs.declared.product.Product.TheVariants.{Mti3, Mti30, Mti300, MtiG710}
 use Rattle.mti.specs.Exactly.{Exactly}
 use Rattle.mti.proofs.Exact.{exactly, none_not_some}
-use Rattle.settings.specs.declared.checked.Settings.{Settings}
-use Rattle.settings.specs.declared.record.Record.{Record}
-use Rattle.settings.specs.Values.{Values, recorded}
+use Rattle.settings.specs.Values.{Values, entry}
 use Rattle.settings.specs.Valid.{first_profile, valid}
-use Rattle.settings.specs.View.{values_of, checked_of}
+use Rattle.settings.specs.View.{checked_of}
 use Rattle.settings.proofs.Judged.{refused, Passed}
-use Rattle.config.specs.Changed.{with_profile}
-
--- what is checked are the values of the settings, edited
-pub edited : (f : Values → Values) (s : Settings) (p : Product) (r : Record) (o : Option Values) → p ≡ (values_of s).product
-    → recorded (values_of s).product r ≡ values_of s → o ≡ checked_of (f (recorded p r)) → o ≡ checked_of (f (values_of s))
-edited f s p r o e v h = h ∙ ap (λ (q : Product). checked_of (f (recorded q r))) e ∙ ap (λ (c : Values). checked_of (f c)) v
+use Rattle.config.specs.Changed.{with_profile, used_of, used}
+use Rattle.mti.specs.declared.output.Output.{Output}
+use Rattle.mti.specs.Identifiers.{known_of}
+use Rattle.settings.specs.Rates.{largest_divisor}
+use Rattle.std.specs.Option.{MatchOption}
 
 pub profiles : (p : Product) → first_profile p ≤ 50
 profiles Mti3 = omega arith
@@ -36,6 +33,12 @@ no_profile c v h =
     (sym (refused d (λ p.
     let e = valid_profile_lem d p in
     omega (arith, e, profiles c.product)))))
+
+pub used_by : (o : Option Output) (i a r : ℕ) (Said : Output → Type 0) → o ≡ known_of i → MatchOption o (r ≡ a) Said
+    → ((x : Output) → Said x → r ≡ largest_divisor x.channel.max_hz a) → entry i r ≡ used (entry i a)
+unfolding used
+used_by None i a r Said k m h = ap (entry i) m ∙ ap (λ (o : Option Output). used_of o (entry i a)) k
+used_by (Some o) i a r Said k m h = ap (entry i) (h o m) ∙ ap (λ (o : Option Output). used_of o (entry i a)) k
 
 -- what is checked is what was edited, if it is valid
 

@@ -1,12 +1,14 @@
 -- The sizes of data, and bytes written entry after entry.
-use Rattle.std.proofs.Common.{◌≡◌, ℕ, ◌+◌, ◌*◌, ◌<◌, ◌≤◌, List, [], ◌∷◌, ◌++◌, length, get_or, take, drop, Some, None, Option, sym, refl, ap, ◌∙◌, append_assoc, append-nil, arith}
+use Rattle.std.proofs.Common.{◌≡◌, ℕ, ◌+◌, ◌*◌, ◌<◌, ◌≤◌, List, [], ◌∷◌, ◌++◌, length, replicate, get_or, take, drop, Some, None, Option, sym, refl, ap, ◌∙◌, append-nil, div-one, ◌/◌, ◌%◌, ◌-◌, arith}
+use borrow.Rule.Slice.PartMut.{put_mid}
+use Rattle.std.proofs.lemmas.Slice.{take-put_mid}
 use Rattle.std.proofs.lemmas.List.{take_more, at_drop_more}
 use Rattle.mti.specs.Identifiers.{data_size_of, Bounded}
 use Rattle.mti.proofs.Named.{size_bounded}
 use Rattle.xbus.specs.Numbers.{be}
 use Rattle.settings.specs.declared.record.Entry.{Entry}
 use Rattle.settings.specs.Values.{entry}
-use Rattle.config.specs.Answered.{packet_bytes, data_bytes, output_bytes}
+use Rattle.config.specs.Answered.{configured, packet_bytes, data_bytes, output_bytes}
 
 pub data_more : (es : List Entry) (i : ℕ) → i < length es
     → data_bytes (drop i es) ≡ packet_bytes (data_size_of (get_or es i (entry 0 0)).identifier) + data_bytes (drop (i + 1) es)
@@ -28,15 +30,27 @@ output_push [] e = append-nil _
 output_push (x ∷ es) e = ap (λ (ys : List ℕ). be 2 x.identifier ++ be 2 x.frequency ++ ys) (output_push es e)
 
 -- one entry more is written
-pub written_more : (es : List Entry) (i f g : ℕ) (out mid last : List ℕ) → i < length es
+pub written_more : (es : List Entry) (i : ℕ) (out four : List ℕ) → i < length es → length es ≤ 32 → length out ≡ 128
     → take (4 * i) out ≡ output_bytes (take i es)
-    → f ≡ (get_or es i (entry 0 0)).identifier → take (4 * i + 2) mid ≡ take (4 * i) out ++ be 2 f
-    → g ≡ (get_or es i (entry 0 0)).frequency → take (4 * i + 2 + 2) last ≡ take (4 * i + 2) mid ++ be 2 g
-    → take (4 * (i + 1)) last ≡ output_bytes (take (i + 1) es)
-written_more es i f g out mid last h inv e first k second =
-    let n : 4 * (i + 1) ≡ 4 * i + 2 + 2 = omega arith in
-    ap (λ (m : ℕ). take m last) n ∙ second ∙ ap (λ (ys : List ℕ). ys ++ be 2 g) (first ∙ ap (λ (ys : List ℕ). ys ++ be 2 f) inv)
-    ∙ append_assoc (output_bytes (take i es)) (be 2 f) (be 2 g)
-    ∙ ap (λ (x : ℕ). output_bytes (take i es) ++ (be 2 x ++ be 2 g)) e
-    ∙ ap (λ (x : ℕ). output_bytes (take i es) ++ (be 2 (get_or es i (entry 0 0)).identifier ++ be 2 x)) k
+    → four ≡ be 2 (get_or es i (entry 0 0)).identifier ++ be 2 (get_or es i (entry 0 0)).frequency
+    → take (4 * (i + 1)) (put_mid (4 * i) (4 * i + 4 - 4 * i) out four) ≡ output_bytes (take (i + 1) es)
+written_more es i out four h few size inv e =
+    let l : length four ≡ 4 = ap length e in
+    take-put_mid (4 * i) (4 * i + 4 - 4 * i) out four (4 * (i + 1)) (omega arith) (omega arith)
+    ∙ (λ t. inv t ++ e t)
     ∙ sym (ap output_bytes (take_more es i (entry 0 0) h) ∙ output_push (take i es) (get_or es i (entry 0 0)))
+
+-- the bytes of a number
+pub two_bytes : (v : ℕ) → v / 256 % 256 ∷ v % 256 ∷ [] ≡ be 2 v
+two_bytes v = ap (λ k. v / 256 % 256 ∷ k % 256 ∷ []) (sym (div-one v))
+
+pub four_bytes : (v : ℕ) → v / 16777216 % 256 ∷ v / 65536 % 256 ∷ v / 256 % 256 ∷ v % 256 ∷ [] ≡ be 4 v
+four_bytes v = ap (λ k. v / 16777216 % 256 ∷ v / 65536 % 256 ∷ v / 256 % 256 ∷ k % 256 ∷ []) (sym (div-one v))
+
+pub configured_is : (id size : ℕ)
+    → (id / 16777216 % 256 ∷ id / 65536 % 256 ∷ id / 256 % 256 ∷ id % 256 ∷ []) ++ replicate 92 0
+    ++ (0 ∷ 1 ∷ id / 16777216 % 256 ∷ id / 65536 % 256 ∷ id / 256 % 256 ∷ id % 256 ∷ size / 256 % 256 ∷ size % 256 ∷ [])
+    ++ replicate 14 0
+    ≡ configured id size
+configured_is id size =
+    λ t. four_bytes id t ++ replicate 92 0 ++ (0 ∷ 1 ∷ []) ++ four_bytes id t ++ two_bytes size t ++ replicate 14 0

@@ -3,91 +3,46 @@ ghost use Rattle.std.specs.Prelude.{◌≡◌};
 ghost use Rattle.std.specs.Option.{option_map};
 ghost use Rattle.std.specs.Result.{result_ok};
 ghost use Rattle.settings.specs.View.{values_of};
-ghost use Rattle.decision.specs.Asked.{changing, Baud, ErrorMode, Location, Profile, Flags, Outputs, Factory};
+ghost use Rattle.decision.specs.Asked.{changing};
 ghost use Rattle.config.specs.Changed.{changed_of};
 ghost use Rattle.config.specs.After.{ChangedSaid};
 
 use crate::outputs::asked_outputs;
 use decision::Change;
-use settings::Settings;
+use settings::{Record, Settings};
 
 // A value that the settings cannot have.
-#[derive(Clone, Copy)]
+#[derive(Clone, Copy, PartialEq, Eq, Debug)]
 pub struct WrongValue;
 
-fn change_baud(settings: &Settings, baud: u8) -> Option<Settings>
-    ensures { option_map values_of result ≡ changed_of (values_of settings.now) (Baud baud) }
-{
-    let mut values = settings.values();
-    values.baud = baud;
-    Settings::checked(settings.product(), &values)
-}
-
-fn change_error_mode(settings: &Settings, mode: u16) -> Option<Settings>
-    ensures { option_map values_of result ≡ changed_of (values_of settings.now) (ErrorMode mode) }
-{
-    let mut values = settings.values();
-    values.error_mode = mode;
-    Settings::checked(settings.product(), &values)
-}
-
-fn change_location(settings: &Settings, location: u16) -> Option<Settings>
-    ensures { option_map values_of result ≡ changed_of (values_of settings.now) (Location location) }
-{
-    let mut values = settings.values();
-    values.location = location;
-    Settings::checked(settings.product(), &values)
-}
-
-// The largest number that the byte of a profile holds: no product has a profile above it.
-const MOST: u16 = 255;
-
-fn change_profile(settings: &Settings, profile: u16) -> Option<Settings>
-    ensures { option_map values_of result ≡ changed_of (values_of settings.now) (Profile profile) }
-{
-    if profile > MOST {
-        return None;
-    }
-    let mut values = settings.values();
-    values.profile = profile as u8;
-    Settings::checked(settings.product(), &values)
-}
-
-// Clear first, then Set.
-fn change_flags(settings: &Settings, set: u32, clear: u32) -> Option<Settings>
-    ensures { option_map values_of result ≡ changed_of (values_of settings.now) (Flags set clear) }
-{
-    let mut values = settings.values();
-    values.flags = (values.flags & !clear) | set;
-    Settings::checked(settings.product(), &values)
-}
-
-fn change_outputs(settings: &Settings, bytes: &[u8]) -> Option<Settings>
-    ensures { option_map values_of result ≡ changed_of (values_of settings.now) (Outputs bytes.now) }
-{
-    let mut values = settings.values();
-    values.entries = asked_outputs(bytes)?;
-    Settings::checked(settings.product(), &values)
-}
-
-fn change_all(settings: &Settings) -> Option<Settings>
-    ensures { option_map values_of result ≡ changed_of (values_of settings.now) Factory }
-{
-    Some(Settings::factory(settings.product()))
-}
-
+// The settings after the change, if the product can have them.
+#[tactic(auto, unfolding(crate::specs::Changed::changed_of))]
 fn changed(settings: &Settings, asked: Change<'_>) -> Option<Settings>
     ensures { option_map values_of result ≡ changed_of (values_of settings.now) (changing asked.entry) }
 {
-    match asked {
-        Change::Baud(baud) => change_baud(settings, baud),
-        Change::ErrorMode(mode) => change_error_mode(settings, mode),
-        Change::Location(location) => change_location(settings, location),
-        Change::Profile(profile) => change_profile(settings, profile),
-        Change::Flags { set, clear } => change_flags(settings, set, clear),
-        Change::Outputs(bytes) => change_outputs(settings, bytes),
-        Change::Factory => change_all(settings),
-    }
+    let product = settings.product();
+    let old = settings.values();
+    let values = match asked {
+        Change::Baud(baud) => Record { baud, ..old },
+        Change::ErrorMode(error_mode) => Record { error_mode, ..old },
+        Change::Location(location) => Record { location, ..old },
+        // No product has a profile that is no byte.
+        Change::Profile(profile) => Record {
+            profile: u8::try_from(profile).ok()?,
+            ..old
+        },
+        // Clear first, then Set.
+        Change::Flags { set, clear } => Record {
+            flags: (old.flags & !clear) | set,
+            ..old
+        },
+        Change::Outputs(bytes) => Record {
+            entries: asked_outputs(bytes)?,
+            ..old
+        },
+        Change::Factory => return Some(Settings::factory(product)),
+    };
+    Settings::checked(product, &values)
 }
 
 // The settings after the change, if the product can have them.
@@ -95,8 +50,5 @@ pub fn change(settings: &Settings, asked: Change<'_>) -> Result<Settings, WrongV
     ensures is { option_map values_of (result_ok result) ≡ changed_of (values_of settings.now) (changing asked.entry) }
     ensures said { ChangedSaid }
 {
-    match changed(settings, asked) {
-        Some(settings) => Ok(settings),
-        None => Err(WrongValue),
-    }
+    changed(settings, asked).ok_or(WrongValue)
 }

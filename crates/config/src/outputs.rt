@@ -12,10 +12,10 @@ use settings::{Entries, Entry, largest_divisor};
 fn used_entry(identifier: u16, asked: u16) -> Entry
     ensures { result ≡ used (entry identifier asked) }
 {
-    let frequency = match known(identifier) {
-        Some(output) => largest_divisor(output.channel.max_hz, asked),
-        None => asked,
-    };
+    let frequency = known(identifier).map_or(
+        asked,
+        |output| largest_divisor(output.channel.max_hz, asked),
+    );
     Entry {
         identifier,
         frequency,
@@ -29,11 +29,11 @@ fn used_entries(bytes: &[u8]) -> Entries
 {
     let mut entries = Entries::new();
     let mut rest = bytes;
-    while rest.len() >= 4 {
-        let identifier = u16::from_be_bytes([rest[0], rest[1]]);
-        let asked = u16::from_be_bytes([rest[2], rest[3]]);
-        let _ = entries.push(used_entry(identifier, asked));
-        rest = &rest[4..];
+    while let [a, b, c, d, tail @ ..] = rest {
+        let identifier = u16::from_be_bytes([*a, *b]);
+        let asked = u16::from_be_bytes([*c, *d]);
+        entries.push(used_entry(identifier, asked)).unwrap();
+        rest = tail;
     }
     entries
 }

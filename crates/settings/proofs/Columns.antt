@@ -1,40 +1,77 @@
--- The places of a column, one after the other, and what stands before them.
-use Rattle.std.proofs.Common.{◌≡◌, ℕ, ◌+◌, ◌-◌, ◌*◌, ◌≤◌, List, ◌++◌, length, get_or, take, drop, ap, ◌∙◌, append_assoc, append-nil, add-zero, add-one, arith}
+-- The places of a column: those that are written, then those that no entry has.
+use Rattle.std.proofs.Common.{◌≡◌, ℕ, zero, suc, ◌+◌, ◌-◌, ◌*◌, ◌<◌, ◌≤◌, List, [], ◌∷◌, ◌++◌, length, get_or, take, drop, sym, refl, ap, ◌∙◌, append_assoc, append-nil, div-one, mod-eq_of_lt, ◌/◌, ◌%◌, arith}
 use borrow.Rule.Slice.PartMut.{put_mid}
-use Rattle.std.proofs.lemmas.List.{length-take-le, length-drop}
-use Rattle.std.proofs.lemmas.Slice.{take-put_mid}
+use Rattle.std.proofs.lemmas.List.{length-append, length-drop, get_or_append_left, get_or-drop, drop_all, take_at, drop_at}
 use Rattle.xbus.specs.Numbers.{be}
-use Rattle.xbus.proofs.Widths.{length_be}
 use Rattle.settings.specs.Image.{places}
 
--- a number written into a part stands behind what was before it
-pub put_at : (out mid : List ℕ) (at width v : ℕ) → at + width ≤ length out → mid ≡ be (length (take (at + width - at) (drop at out))) v
-    → take (at + width) (put_mid at (at + width - at) out mid) ≡ take at out ++ be width v
-put_at out mid at width v room e =
-    let w : at + width - at ≡ width = omega arith in
-    let n : length (take (at + width - at) (drop at out)) ≡ width =
-    ap (λ k. length (take k (drop at out))) w ∙ length-take-le width (drop at out) (omega (arith, length-drop at out)) in
-    let m : mid ≡ be width v = e ∙ ap (λ k. be k v) n in
-    let l : length mid ≡ width = ap length m ∙ length_be width v in
-    take-put_mid at (at + width - at) out mid (at + width) (omega arith) (omega arith) ∙ ap (λ ys. take at out ++ ys) m
-
-places_more : (i : ℕ) (vs : List ℕ) → places (i + 1) vs ≡ places i vs ++ be 2 (get_or vs i 0)
+pub length_places : (n : ℕ) (vs : List ℕ) → length (places n vs) ≡ 2 * n
 unfolding places
-places_more i vs = rw add-one
+length_places zero vs = refl
+length_places (suc n) vs = length-append (places n vs) (be 2 (get_or vs n 0)) ∙ omega (arith, length_places n vs)
 
-module _ (start : List ℕ) (at : ℕ) (vs : List ℕ) where
-  pub column_none : take (at + 2 * 0) start ≡ take at start ++ places 0 vs
+places_split : (i k : ℕ) (vs : List ℕ) → places (i + k) vs ≡ places i vs ++ places k (drop i vs)
+unfolding places
+places_split i zero vs = let e : i + 0 ≡ i = omega arith in rw (e, append-nil)
+places_split i (suc k) vs =
+    let e : i + suc k ≡ suc (i + k) = omega arith in
+    rw (e, places_split i k vs, append_assoc, get_or-drop)
+
+same_places : (n : ℕ) (vs ws : List ℕ) → ((k : ℕ) → k < n → get_or vs k 0 ≡ get_or ws k 0) → places n vs ≡ places n ws
+unfolding places
+same_places zero vs ws h = refl
+same_places (suc n) vs ws h = λ t. same_places n vs ws (λ k l. h k (omega arith)) t ++ be 2 (h n (omega arith) t)
+
+module _ (i k : ℕ) (vs : List ℕ) (l : length vs ≡ i) where
+  unwritten : places (i + (1 + k)) vs ≡ places i vs ++ (be 2 0 ++ places k [])
   unfolding places
-  column_none = simp (append-nil, add-zero)
+  unwritten =
+      places_split i (1 + k) vs ∙ ap (λ ws. places i vs ++ places (1 + k) ws) (drop_all i vs (omega arith))
+      ∙ ap (λ ys. places i vs ++ ys) (places_split 1 k [])
 
-  pub column_more : (i : ℕ) (out last : List ℕ) → take (at + 2 * i) out ≡ take at start ++ places i vs
-      → (v : ℕ) → v ≡ get_or vs i 0
-      → take (at + 2 * i + 2) last ≡ take (at + 2 * i) out ++ be 2 v
-      → take (at + 2 * (i + 1)) last ≡ take at start ++ places (i + 1) vs
-  column_more i out last inv v e put =
-      let n : at + 2 * (i + 1) ≡ at + 2 * i + 2 = omega arith in
-      rw (n, put, inv, e, append_assoc, places_more)
+  written : (v : ℕ) → places (i + (1 + k)) (vs ++ (v ∷ [])) ≡ places i vs ++ (be 2 v ++ places k [])
+  unfolding places
+  written v =
+      places_split i (1 + k) (vs ++ (v ∷ []))
+      ∙ ap (λ ws. places i (vs ++ (v ∷ [])) ++ places (1 + k) ws) (drop_at vs (v ∷ []) i l)
+      ∙ ap (λ ys. places i (vs ++ (v ∷ [])) ++ ys) (places_split 1 k (v ∷ []))
+      ∙ ap (λ ps. ps ++ (be 2 v ++ places k []))
+        (same_places i (vs ++ (v ∷ [])) vs (λ j b. get_or_append_left vs (v ∷ []) 0 j (omega arith)))
 
-  pub column_all : (i n : ℕ) (out : List ℕ) → take (at + 2 * i) out ≡ take at start ++ places i vs → i ≡ n
-      → take (at + 2 * n) out ≡ take at start ++ places n vs
-  column_all i n out inv e = rw (← e) inv
+  -- one more place is written
+  pub place_more : (n v : ℕ) (out mid : List ℕ) → i + (1 + k) ≡ n → mid ≡ be 2 v → out ≡ places n vs
+      → take (2 * i) out ++ (mid ++ drop (2 * i + 2 - 2 * i) (drop (2 * i) out)) ≡ places n (vs ++ (v ∷ []))
+  place_more n v out mid size m e =
+      let two : 2 * i + 2 - 2 * i ≡ 2 = omega arith in
+      let o : out ≡ places i vs ++ (be 2 0 ++ places k []) = e ∙ ap (λ j. places j vs) (sym size) ∙ unwritten in
+      let w = length_places i vs in
+      let rest : drop 2 (be 2 0 ++ places k []) ≡ places k [] = refl in
+      rw (m, two, o, take_at (places i vs) (be 2 0 ++ places k []) (2 * i) w, drop_at (places i vs) (be 2 0 ++ places k []) (2 * i) w, rest)
+      (sym (written v) ∙ ap (λ j. places j (vs ++ (v ∷ []))) size)
+
+-- the bytes of a number
+pub two_bytes : (v : ℕ) → v / 256 % 256 ∷ v % 256 ∷ [] ≡ be 2 v
+two_bytes v = ap (λ k. v / 256 % 256 ∷ k % 256 ∷ []) (sym (div-one v))
+
+-- ---- the image, part by part
+
+pub fields_are : (n b p m l g : ℕ) → n < 256 → b < 256 → p < 256
+    → 10 ∷ n ∷ b ∷ p ∷ m / 256 % 256 ∷ m % 256 ∷ l / 256 % 256 ∷ l % 256 ∷ g / 16777216 % 256 ∷ g / 65536 % 256 ∷ g / 256 % 256 ∷ g % 256 ∷ []
+    ≡ be 1 10 ++ be 1 n ++ be 1 b ++ be 1 p ++ be 2 m ++ be 2 l ++ be 4 g
+fields_are n b p m l g h i j = simp (div-one, mod-eq_of_lt h, mod-eq_of_lt i, mod-eq_of_lt j)
+
+module _ (a b z : List ℕ) (la : length a ≡ 12) (lb : length b ≡ 64) (lz : length z ≡ 128) where
+  two_parts : put_mid 12 64 (a ++ z) b ≡ (a ++ b) ++ drop 64 z
+  two_parts = rw (take_at a z 12 la, drop_at a z 12 la) (sym (append_assoc a b (drop 64 z)))
+
+  lab : length (a ++ b) ≡ 76
+  lab = length-append a b ∙ omega arith
+
+  -- after two parts there is room for the third
+  pub room_left : 140 ≤ length (put_mid 12 64 (a ++ z) b)
+  room_left = omega (arith, ap length two_parts, length-append (a ++ b) (drop 64 z), lab, length-drop 64 z)
+
+  pub parts_written : (d : List ℕ) → length d ≡ 64 → put_mid 76 64 (put_mid 12 64 (a ++ z) b) d ≡ (a ++ b) ++ d
+  parts_written d ld =
+      let none : drop 64 (drop 64 z) ≡ [] = drop_all 64 (drop 64 z) (omega (arith, length-drop 64 z)) in
+      rw (two_parts, take_at (a ++ b) (drop 64 z) 76 lab, drop_at (a ++ b) (drop 64 z) 76 lab, none, append-nil)

@@ -14,14 +14,10 @@ use Rattle.settings.specs.Values.{Values, entry}
 use Rattle.settings.specs.Valid.{valid}
 use Rattle.settings.specs.Image.{places, fields_of, image_of, number_at, entry_at, entries_at, read_of, load_of}
 use Rattle.settings.specs.Stored.{ImageOf, StoredSaid}
+use Rattle.settings.proofs.Columns.{length_places}
 use Rattle.settings.proofs.Bounds.{Fit, Fits, fits}
 
 -- ---- the size of an image
-
-length_places : (n : ℕ) (vs : List ℕ) → length (places n vs) ≡ 2 * n
-unfolding places
-length_places zero vs = refl
-length_places (suc n) vs = length-append (places n vs) (be 2 (get_or vs n 0)) ∙ omega (arith, length_places n vs)
 
 length_fields : (c : Values) → length (fields_of c) ≡ 12
 unfolding fields_of

@@ -3,7 +3,6 @@ pub mod Values
 pub mod Valid
 pub mod Rules
 pub mod Factory
-pub mod Columns
 pub mod Image
 pub mod Stored
 pub mod View

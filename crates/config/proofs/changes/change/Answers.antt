@@ -1,9 +1,6 @@
--- What is changed, and what is said of it.
+-- What is said of a change.
 use Rattle.config.proofs.Exacts.{changed_said}
 use Rattle.config.proofs.changes.change.Goals as goal
 
-pub returns-in-Some : goal.returns-in-Some
-returns-in-Some c = record { is = c.in-Some.ensures; said = changed_said }
-
-pub returns-in-None : goal.returns-in-None
-returns-in-None c = record { is = c.in-None.ensures; said = changed_said }
+pub returns-clause-said : goal.returns-clause-said
+returns-clause-said c = changed_said

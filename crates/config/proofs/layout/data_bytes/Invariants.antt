@@ -5,4 +5,4 @@ use Rattle.config.proofs.layout.data_bytes.Given as goal
 
 -- the sum so far, and that of the rest
 abbrev pub invariant-loop-entry : goal.invariant-loop-entry
-invariant-loop-entry l = (l.sum + data_bytes (drop l.entry-index l.entries) ≡ data_bytes l.entries) × (l.sum ≤ 75 * l.entry-index)
+invariant-loop-entry l = (l.sum + data_bytes (drop l.entry-index l.entry-items) ≡ data_bytes l.entry-items) × (l.sum ≤ 75 * l.entry-index)
