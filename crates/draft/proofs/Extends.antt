@@ -7,16 +7,9 @@ use Rattle.std.proofs.lemmas.Bool.{lt-ltb, le-ltb, le-leb, lt-leb, cond-true, co
 use Rattle.xbus.specs.Numbers.{be}
 use Rattle.xbus.specs.Frames.{encoded}
 use Rattle.xbus.specs.Writing.{frame_size, content_start, content_size, sealed_by}
+use Rattle.mtdata2.proofs.Frames.{frame_parts}
 
 -- ---- sizes
-
--- what stands around n data bytes
-pub frame_parts : (n : ℕ) → frame_size n ≡ content_start n + n + 1
-frame_parts n =
-    ⊎_elim
-    (λ l. let t = lt-ltb n 255 l in omega (arith, cond-true {A = ℕ} (ltb n 255) 4 6 t, cond-true {A = ℕ} (ltb n 255) (n + 5) (n + 7) t))
-    (λ l. let t = le-ltb n 255 l in omega (arith, cond-false {A = ℕ} (ltb n 255) 4 6 t, cond-false {A = ℕ} (ltb n 255) (n + 5) (n + 7) t))
-    (cases_lt n 255)
 
 pub start_grows : (n m : ℕ) → n ≤ m → content_start n ≤ content_start m
 start_grows n m h =

@@ -1,5 +1,5 @@
 -- What a tray holds for a draft: with a packet more, and when it is closed.
-use Rattle.std.proofs.Common.{◌≡◌, ℕ, ◌+◌, ◌-◌, ◌<◌, ◌≤◌, ltb, List, [], ◌∷◌, ◌++◌, length, take, drop, Ok, Err, sym, refl, ap, ◌∙◌, ⊎_elim, arith}
+use Rattle.std.proofs.Common.{◌≡◌, ℕ, ◌+◌, ◌-◌, ◌<◌, ◌≤◌, ltb, List, [], ◌∷◌, ◌++◌, length, take, drop, Ok, sym, refl, ap, ◌∙◌, ⊎_elim, arith}
 use lib.Seq.{paste}
 use Rattle.std.specs.List.{flat_map}
 use Rattle.std.proofs.lemmas.List.{append_assoc, length-append, length-take-le, take_at, take-take, take_all, drop_at, drop-drop, flat_map_more}
@@ -11,29 +11,12 @@ use Rattle.xbus.proofs.Cases.{length_short, length_is_long}
 use Rattle.xbus.proofs.Writes.{encoded_size}
 use Rattle.mtdata2.specs.Packets.{Item, packet_bytes, WellFormed}
 use Rattle.mtdata2.specs.Words.{MessageOf}
+use Rattle.mtdata2.proofs.Frames.{frame_parts}
 use Rattle.mtdata2.proofs.Rounds.{accepts, well_formed_push}
 use Rattle.draft.specs.declared.draft.Draft.{Draft}
-use Rattle.draft.specs.declared.refusal.Refusal.TheVariants.{NoPacket}
 use Rattle.draft.specs.Composed.{frame_so_far, grown, content_in, laid, Holding, Added, Closed}
-use Rattle.draft.proofs.Extends.{frame_parts}
 
 -- ---- closed
-
-no_bytes : (items : List Item) → length (flat_map packet_bytes items) ≡ 0 → items ≡ []
-no_bytes [] e = refl
-no_bytes (i ∷ is) e = absurd (omega arith)
-
-module _ (items : List Item) (tray : List ℕ) (d : Draft) (h : Holding items tray d) where
-  pub closed_empty : d.lot.size ≡ 0 → Closed items tray d (Err NoPacket)
-  closed_empty z =
-      let none : items ≡ [] = no_bytes items (sym h.sized ∙ z) in
-      let no_items : (0 < length items) → ⊥ = λ l. omega (arith, ap length none) in
-      record {
-        refused = λ e. refl;
-        accepted = λ l. absurd (no_items l);
-        message = λ l. absurd (no_items l);
-        reads = λ l. absurd (no_items l);
-      }
 
 -- the bytes from the start to the mark are the message
 message_there : (items : List Item) (tray : List ℕ) (d : Draft) → Holding items tray d → 0 < length items → MessageOf (take (d.mark.now - d.lot.start) (drop d.lot.start tray)) items
@@ -44,11 +27,11 @@ message_there (i ∷ is) tray d h some =
     record {
       some = some;
       well_formed = h.well_formed;
-      short = omega (arith, h.sized, d.lot.short);
+      short = omega (arith, h.sized, d.lot.size.most);
       is = ap (λ k. take k (drop d.lot.start tray)) n ∙ h.there;
     }
 
-pub closed_full : (items : List Item) (tray : List ℕ) (d : Draft) → Holding items tray d → (d.lot.size ≡ 0 → ⊥) → Closed items tray d (Ok tt)
+pub closed_full : (items : List Item) (tray : List ℕ) (d : Draft) → Holding items tray d → (d.lot.size.len ≡ 0 → ⊥) → Closed items tray d (Ok tt)
 closed_full items tray d h some =
     let m = message_there items tray d h in
     record {
@@ -100,10 +83,10 @@ so_far_push [] i = refl
 so_far_push (j ∷ js) i = refl
 
 -- the frame that is laid is that of the packets with the new one
-pub frame_grows : (items : List Item) (tray : List ℕ) (d : Draft) (i : Item) → Holding items tray d → encoded 0xFF 0x36 (content_in tray d.lot.start d.lot.size ++ packet_bytes i) ≡ frame_so_far (items ++ (i ∷ []))
+pub frame_grows : (items : List Item) (tray : List ℕ) (d : Draft) (i : Item) → Holding items tray d → encoded 0xFF 0x36 (content_in tray d.lot.start d.lot.size.len ++ packet_bytes i) ≡ frame_so_far (items ++ (i ∷ []))
 frame_grows items tray d i h =
     ap (encoded 0xFF 0x36)
-    (ap (λ z. z ++ packet_bytes i) (held_content items tray d.lot.start d.lot.size h.sized d.lot.short h.there)
+    (ap (λ z. z ++ packet_bytes i) (held_content items tray d.lot.start d.lot.size.len h.sized d.lot.size.most h.there)
     ∙ flat_map_more packet_bytes [] items i)
     ∙ sym (so_far_push items i)
 
@@ -117,16 +100,16 @@ pasted xs ys at n h l =
 
 module _ (tray u : List ℕ) (d e : Draft) (i : Item) (w : WellFormed i)
     (same_start : e.lot.start ≡ d.lot.start)
-    (size : e.lot.size ≡ grown d.lot.size (length i.bytes))
-    (mark : e.mark.now ≡ d.lot.start + frame_size (grown d.lot.size (length i.bytes)))
-    (fits : d.lot.start + frame_size (grown d.lot.size (length i.bytes)) ≤ length tray)
-    (short : grown d.lot.size (length i.bytes) ≤ 2048)
-    (is : u ≡ laid tray d.lot.start d.lot.size i)
+    (size : e.lot.size.len ≡ grown d.lot.size.len (length i.bytes))
+    (mark : e.mark.now ≡ d.lot.start + frame_size (grown d.lot.size.len (length i.bytes)))
+    (fits : d.lot.start + frame_size (grown d.lot.size.len (length i.bytes)) ≤ length tray)
+    (short : grown d.lot.size.len (length i.bytes) ≤ 2048)
+    (is : u ≡ laid tray d.lot.start d.lot.size.len i)
   where
     pub holds_more : (items : List Item) → Holding items tray d → Holding (items ++ (i ∷ [])) u e
     holds_more items h =
         let start = d.lot.start in
-        let have = d.lot.size in
+        let have = d.lot.size.len in
         let n : ℕ = grown have (length i.bytes) in
         let old : List ℕ = flat_map packet_bytes items in
         let new : List ℕ = flat_map packet_bytes (items ++ (i ∷ [])) in

@@ -12,11 +12,12 @@ use Rattle.xbus.proofs.Bytes.{bytes_take, bytes_drop}
 use Rattle.xbus.proofs.Writes.{encoded_size}
 use Rattle.mti.specs.Identifiers.{data_size_of}
 use Rattle.mtdata2.specs.Packets.{Item, item_of, size_fits, packet_bytes, WellFormed}
+use Rattle.mtdata2.proofs.Frames.{frame_parts}
 use Rattle.mtdata2.proofs.Rounds.{fits_size}
 use Rattle.draft.specs.declared.refusal.Refusal.{Refusal}
 use Rattle.draft.specs.declared.refusal.Refusal.TheVariants.{NoRoom}
 use Rattle.draft.specs.Composed.{asked, grown, judged, content_in, laid}
-use Rattle.draft.proofs.Extends.{frame_parts, start_grows}
+use Rattle.draft.proofs.Extends.{start_grows}
 use Rattle.draft.proofs.Holds.{content_part}
 
 -- a record that is accepted
@@ -99,15 +100,14 @@ module _ (source : List ℕ) (identifier place size start have room g : ℕ) (a 
       ∙ ap (paste tray start (encoded 0xFF 0x36 d)) (e ∙ ap frame_size (sym lg))
 
   -- what extending the frame asks for
-  pub extends : (tray : List ℕ) (f : ℕ) → room ≡ length tray → f ≡ frame_size g → (length (take (place + size - place) (drop place source)) ≤ 255) × ((grown have (length (take (place + size - place) (drop place source))) ≤ 2048) × (length (take (start + f - start) (drop start tray)) ≡ frame_size (grown have (length (take (place + size - place) (drop place source))))))
+  pub extends : (tray : List ℕ) (f : ℕ) → room ≡ length tray → f ≡ frame_size g → (length (take (place + size - place) (drop place source)) ≤ 255) × ((g ≡ grown have (length (take (place + size - place) (drop place source)))) × (length (take (start + f - start) (drop start tray)) ≡ frame_size g))
   extends tray f r e =
       let l : length (take (place + size - place) (drop place source)) ≡ size = ap length part_cut ∙ part_length in
-      let g_is : grown have (length (take (place + size - place) (drop place source))) ≡ g = omega (arith, a.is, l) in
       let k : start + f - start ≡ f = omega arith in (
         omega (arith, l, a.byte),
         (
-          omega (arith, g_is, a.short),
+          omega (arith, a.is, l),
           ap (λ m. length (take m (drop start tray))) k
-              ∙ length-take-le f (drop start tray) (omega (arith, length-drop start tray, a.fits)) ∙ e ∙ ap frame_size (sym g_is),
+              ∙ length-take-le f (drop start tray) (omega (arith, length-drop start tray, a.fits)) ∙ e,
         ),
       )

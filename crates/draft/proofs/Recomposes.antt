@@ -73,7 +73,7 @@ so_far_longer (j ∷ js) i h =
 
 module _ (all : List Item) (m : ℕ) (t tray u : List ℕ) (d e : Draft) (i : Item) (left : List Item)
     (p : Progress all m t tray d (i ∷ left)) (a : Added d e tray u i) (same : e.lot.start ≡ d.lot.start)
-    (room : d.lot.start + frame_size (grown d.lot.size (length i.bytes)) ≤ length tray)
+    (room : d.lot.start + frame_size (grown d.lot.size.len (length i.bytes)) ≤ length tray)
   where
     pub progress_more : Progress all m t u e left
     progress_more =
@@ -81,10 +81,10 @@ module _ (all : List Item) (m : ℕ) (t tray u : List ℕ) (d e : Draft) (i : It
         let new : List Item = done ++ (i ∷ []) in
         let h = p.holding in
         let h' = a.holds done h in
-        let n : ℕ = frame_size (grown d.lot.size (length i.bytes)) in
+        let n : ℕ = frame_size (grown d.lot.size.len (length i.bytes)) in
         let ln : length (frame_so_far new) ≡ n = omega (arith, h'.marked, a.mark, same) in
         let lt : length tray ≡ length t = ap length p.tray_is ∙ tray_length done m t p.fits in
-        let longer = so_far_longer done i (omega (arith, h'.sized, e.lot.short)) in
+        let longer = so_far_longer done i (omega (arith, h'.sized, e.lot.size.most)) in
         let start = p.start in
         record {
           done = new;
@@ -124,12 +124,12 @@ answered_ok x (Ok g) e = (g, refl)
 answered_ok x (Err f) e = let z : ◌≡◌ {A = ℕ} 0 1 = cc in absurd (omega arith)
 
 -- the record of a packet that was handed out was accepted
-pub progress_added : (all : List Item) (m : ℕ) (t tray u : List ℕ) (d e : Draft) (i : Item) (left : List Item) (content : List ℕ) (identifier : ℕ) (x : Unit {0}) → Progress all m t tray d (i ∷ left) → asked content identifier 0 (length content) ≡ i → Added d e tray u (asked content identifier 0 (length content)) → e.lot.start ≡ d.lot.start → Ok x ≡ answered (judged (length content) identifier 0 (length content) d.lot.start d.lot.size (length tray)) → Progress all m t u e left
+pub progress_added : (all : List Item) (m : ℕ) (t tray u : List ℕ) (d e : Draft) (i : Item) (left : List Item) (content : List ℕ) (identifier : ℕ) (x : Unit {0}) → Progress all m t tray d (i ∷ left) → asked content identifier 0 (length content) ≡ i → Added d e tray u (asked content identifier 0 (length content)) → e.lot.start ≡ d.lot.start → Ok x ≡ answered (judged (length content) identifier 0 (length content) d.lot.start d.lot.size.len (length tray)) → Progress all m t u e left
 progress_added all m t tray u d e i left content identifier x p is a same says =
-    let o = answered_ok x (judged (length content) identifier 0 (length content) d.lot.start d.lot.size (length tray)) says in
-    let q = accepted (length content) identifier 0 (length content) d.lot.start d.lot.size (length tray) o.0 o.1 in
+    let o = answered_ok x (judged (length content) identifier 0 (length content) d.lot.start d.lot.size.len (length tray)) says in
+    let q = accepted (length content) identifier 0 (length content) d.lot.start d.lot.size.len (length tray) o.0 o.1 in
     let lc : length content ≡ length i.bytes = sym (ap length (take_all (length content) content (omega arith))) ∙ ap (λ j. length j.bytes) is in
-    let g : o.0 ≡ grown d.lot.size (length i.bytes) = q.is ∙ ap (grown d.lot.size) lc in
+    let g : o.0 ≡ grown d.lot.size.len (length i.bytes) = q.is ∙ ap (grown d.lot.size.len) lc in
     progress_more all m t tray u d e i left p (subst (Added d e tray u) is a) same (subst (λ k. d.lot.start + frame_size k ≤ length tray) g q.fits)
 
 -- ---- refused
@@ -149,16 +149,16 @@ only_no_room true n e p = (refl, cc)
 only_no_room false n e p = let z : ◌≡◌ {A = ℕ} 0 1 = cc in absurd (omega arith)
 
 -- a packet of an accepted message is refused for want of room alone
-refused_packet : (input : List ℕ) (all : List Item) (m : ℕ) (t tray u : List ℕ) (d : Draft) (i : Item) (left : List Item) (content : List ℕ) (e : Refusal) (k : ℕ) → MessageOf input all → Progress all m t tray d (i ∷ left) → content ≡ i.bytes → Err e ≡ answered (judged (length content) i.identifier 0 (length content) d.lot.start d.lot.size (length tray)) → k ≡ d.lot.start → Recomposed input m t (Err e) k u
+refused_packet : (input : List ℕ) (all : List Item) (m : ℕ) (t tray u : List ℕ) (d : Draft) (i : Item) (left : List Item) (content : List ℕ) (e : Refusal) (k : ℕ) → MessageOf input all → Progress all m t tray d (i ∷ left) → content ≡ i.bytes → Err e ≡ answered (judged (length content) i.identifier 0 (length content) d.lot.start d.lot.size.len (length tray)) → k ≡ d.lot.start → Recomposed input m t (Err e) k u
 refused_packet input all m t tray u d i left content e k msg p c says back =
     let w = well_formed_at p.done i left (subst EachWellFormed (sym p.split) msg.well_formed) in
     let lc : length content ≡ length i.bytes = ap length c in
     let total : length (flat_map packet_bytes all) ≡ length (flat_map packet_bytes p.done) + (3 + length i.bytes) + length (flat_map packet_bytes left) =
     ap (λ l. length (flat_map packet_bytes l)) (sym p.split) ∙ joined_split p.done i left in
-    let n : ℕ = grown d.lot.size (length content) in
+    let n : ℕ = grown d.lot.size.len (length content) in
     let short : n ≤ length (flat_map packet_bytes all) = omega (arith, p.holding.sized) in
     let right : size_fits i.identifier (length content) ≡ true = ap (size_fits i.identifier) lc ∙ size_fits_lem (data_size_of i.identifier) (length i.bytes) w.size in
-    let j = judged_room (length content) i.identifier 0 (length content) d.lot.start d.lot.size (length tray) (omega arith) (omega (arith, w.short)) right (omega (arith, msg.short)) in
+    let j = judged_room (length content) i.identifier 0 (length content) d.lot.start d.lot.size.len (length tray) (omega arith) (omega (arith, w.short)) right (omega (arith, msg.short)) in
     let r = only_no_room (ltb (length tray) (d.lot.start + frame_size n)) n e (says ∙ ap answered j) in
     let less = ltb-true _ _ r.0 in
     let lt : length tray ≡ length t = ap length p.tray_is ∙ tray_length p.done m t p.fits in
@@ -193,7 +193,7 @@ recomposed input all m t tray d r k msg p closes mark =
 -- ---- as the code has it: the mark began at n, and the answer came by `?` or by closing
 
 module _ (input : List ℕ) (all : List Item) (m n : ℕ) (t tray : List ℕ) (d : Draft) (msg : MessageOf input all) (begun : m ≡ n) where
-  pub refused_at : (u : List ℕ) (i : Item) (left : List Item) (content : List ℕ) (e : Refusal) (r : Result (Unit {0}) Refusal) (k : ℕ) → Progress all m t tray d (i ∷ left) → content ≡ i.bytes → Err e ≡ answered (judged (length content) i.identifier 0 (length content) d.lot.start d.lot.size (length tray)) → r ≡ Err e → k ≡ d.lot.start → Recomposed input n t r k u
+  pub refused_at : (u : List ℕ) (i : Item) (left : List Item) (content : List ℕ) (e : Refusal) (r : Result (Unit {0}) Refusal) (k : ℕ) → Progress all m t tray d (i ∷ left) → content ≡ i.bytes → Err e ≡ answered (judged (length content) i.identifier 0 (length content) d.lot.start d.lot.size.len (length tray)) → r ≡ Err e → k ≡ d.lot.start → Recomposed input n t r k u
   refused_at u i left content e r k p c says is back =
       subst (λ x. Recomposed input x t r k u) begun
       (subst (λ x. Recomposed input m t x k u) (sym is) (refused_packet input all m t tray u d i left content e k msg p c says back))

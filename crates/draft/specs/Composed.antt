@@ -2,6 +2,7 @@
 use Rattle.std.specs.Prelude.{◌≡◌, ℕ, ◌+◌, ◌-◌, ◌<◌, cond, not, ◌&&◌, List, [], ◌∷◌, ◌++◌, length, take, drop, Ok, Err, Result, ◌==◌, nat_le, nat_lt}
 use Rattle.std.proofs.Math.Seq.{paste}
 use Rattle.std.specs.List.{flat_map}
+use Rattle.xbus.specs.declared.data_len.DataLen.{DataLen}
 use Rattle.xbus.specs.Frames.{encoded}
 use Rattle.xbus.specs.Writing.{frame_size, content_start}
 use Rattle.mtdata2.specs.Packets.{Item, item_of, size_fits, packet_bytes, EachWellFormed}
@@ -32,6 +33,11 @@ judged n identifier place size start have room =
     (cond (nat_lt 2048 (grown have size)) (Err TooLong)
     (cond (nat_lt room (start + frame_size (grown have size))) (Err NoRoom) (Ok (grown have size)))))
 
+-- as the code has it
+abbrev pub counted : Result DataLen Refusal → Result ℕ Refusal
+counted (Ok n) = Ok n.len
+counted (Err e) = Err e
+
 -- the same without the number
 abbrev pub answered : Result ℕ Refusal → Result (Unit {0}) Refusal
 answered (Ok n) = Ok tt
@@ -50,15 +56,15 @@ laid tray start n i =
 -- the tray holds the frame of these packets behind the draft's start, and the mark stands behind it
 pub record Holding (items : List Item) (tray : List ℕ) (d : Draft) : Type 0 where
   pub well_formed : EachWellFormed items
-  pub sized : d.lot.size ≡ length (flat_map packet_bytes items)
+  pub sized : d.lot.size.len ≡ length (flat_map packet_bytes items)
   pub there : take (length (frame_so_far items)) (drop d.lot.start tray) ≡ frame_so_far items
   pub marked : d.mark.now ≡ d.lot.start + length (frame_so_far items)
 
 -- an accepted record: from the draft d and the tray t to e and u
 pub record Added (d e : Draft) (t u : List ℕ) (i : Item) : Type 0 where
-  pub size : e.lot.size ≡ grown d.lot.size (length i.bytes)
-  pub mark : e.mark.now ≡ d.lot.start + frame_size (grown d.lot.size (length i.bytes))
-  pub tray : u ≡ laid t d.lot.start d.lot.size i
+  pub size : e.lot.size.len ≡ grown d.lot.size.len (length i.bytes)
+  pub mark : e.mark.now ≡ d.lot.start + frame_size (grown d.lot.size.len (length i.bytes))
+  pub tray : u ≡ laid t d.lot.start d.lot.size.len i
   pub holds : (items : List Item) → Holding items t d → Holding (items ++ (i ∷ [])) u e
 
 -- the answer to closing a draft with n data bytes

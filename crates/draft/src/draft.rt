@@ -3,16 +3,12 @@ ghost use Rattle.std.specs.Prelude.{◌≡◌, ℕ, ◌+◌, ◌≤◌, List, []
 ghost use Rattle.xbus.specs.Frames.{encoded};
 ghost use Rattle.xbus.specs.Writing.{frame_size, content_start};
 ghost use Rattle.mtdata2.specs.Packets.{Item, item_of, packet_bytes};
-ghost use Rattle.draft.specs.Composed.{asked, grown, judged, answered, closing, Holding, Added, Closed};
+ghost use Rattle.draft.specs.Composed.{asked, grown, judged, counted, answered, closing, Holding, Added, Closed};
 
 use crate::lot::Lot;
 use crate::refusal::Refusal;
-use mtdata2::size_fits;
-use xbus::{MOST_DATA, put_number, seal_frame};
-
-const DATA_ADDRESS: u8 = 0xFF;
-
-const DATA_IDENTIFIER: u8 = 0x36;
+use mtdata2::{DATA_MESSAGE, size_fits};
+use xbus::{DataLen, put_number, seal_frame};
 
 // A packet to add: its identifier, and the place and size of its data in the bytes lent with it.
 #[derive(Clone, Copy)]
@@ -22,24 +18,9 @@ pub struct Record {
     pub size: usize,
 }
 
-// The bytes of a frame with `len` data bytes.
-fn frame_size(len: usize) -> usize
-    requires { len ≤ 2048 }
-    ensures { result ≡ frame_size len }
-{
-    if len < 255 { len + 5 } else { len + 7 }
-}
-
-// Where the data of a frame with `len` data bytes start.
-fn content_start(len: usize) -> usize
-    ensures { result ≡ content_start len }
-{
-    if len < 255 { 4 } else { 6 }
-}
-
 // The data bytes with the record's packet, or why it is refused.
-fn judge(lot: Lot, room: usize, source: usize, packet: Record) -> Result<usize, Refusal>
-    ensures { result ≡ judged source packet.identifier packet.place packet.size lot.start lot.size room }
+fn judge(lot: Lot, room: usize, source: usize, packet: Record) -> Result<DataLen, Refusal>
+    ensures { counted result ≡ judged source packet.identifier packet.place packet.size lot.start lot.size.len room }
 {
     if packet.place > source || source - packet.place < packet.size {
         return Err(Refusal::PastBytes);
@@ -47,12 +28,8 @@ fn judge(lot: Lot, room: usize, source: usize, packet: Record) -> Result<usize, 
     if packet.size > 255 || !size_fits(packet.identifier, packet.size) {
         return Err(Refusal::WrongSize);
     }
-    let grown = lot.size + (3 + packet.size);
-    if grown > MOST_DATA {
-        return Err(Refusal::TooLong);
-    }
-    let size = frame_size(grown);
-    if lot.start > room || room - lot.start < size {
+    let grown = DataLen::new(lot.size.len + (3 + packet.size)).ok_or(Refusal::TooLong)?;
+    if lot.start > room || room - lot.start < grown.frame_size() {
         return Err(Refusal::NoRoom);
     }
     Ok(grown)
@@ -69,17 +46,20 @@ fn put_packet(out: &mut [u8], identifier: u16, content: &[u8])
     out[3..end].copy_from_slice(content);
 }
 
-// Adds a packet to a frame with `len` data bytes in place. `frame` is as long as the frame with the packet.
-fn extend_frame(frame: &mut [u8], len: usize, identifier: u16, content: &[u8])
-    requires { (length content.now ≤ 255) × ((grown len (length content.now) ≤ 2048) × (length frame.old ≡ frame_size (grown len (length content.now)))) }
-    ensures { frame.new ≡ encoded 0xFF 0x36 (take len (drop (content_start len) frame.old) ++ packet_bytes (item_of identifier content.now)) }
+// Adds a packet in place to a frame with `have` data bytes, which is as long as the frame with the packet, of `more`.
+fn extend_frame(frame: &mut [u8], have: DataLen, more: DataLen, identifier: u16, content: &[u8])
+    requires { (length content.now ≤ 255) × ((more.len ≡ grown have.len (length content.now)) × (length frame.old ≡ frame_size more.len)) }
+    ensures { frame.new ≡ encoded 0xFF 0x36 (take have.len (drop (content_start have.len) frame.old) ++ packet_bytes (item_of identifier content.now)) }
 {
-    let grown = len + (3 + content.len());
-    let old = content_start(len);
-    let new = content_start(grown);
-    frame.copy_within(old..old + len, new);
-    put_packet(&mut frame[new + len..new + grown], identifier, content);
-    let _ = seal_frame(frame, DATA_ADDRESS, DATA_IDENTIFIER);
+    let old = have.content_start();
+    let new = more.content_start();
+    frame.copy_within(old..old + have.len, new);
+    put_packet(
+        &mut frame[new + have.len..new + more.len],
+        identifier,
+        content,
+    );
+    let _ = seal_frame(frame, DATA_MESSAGE);
 }
 
 // A data message that is being composed. It borrows the fill mark, and not the tray, which is lent to each call.
@@ -104,17 +84,20 @@ impl<'m> Draft<'m> {
         ensures lends { result.mark.ghost_name ≡ mark.entry.ghost_name }
         ensures stays { result.mark.now ≡ mark.old }
         ensures old { result.lot.start ≡ mark.old }
-        ensures none { result.lot.size ≡ 0 }
+        ensures none { result.lot.size.len ≡ 0 }
         ensures holds { (tray : List ℕ) → Holding [] tray result }
     {
         let start = *mark;
-        let lot = Lot { start, size: 0 };
+        let lot = Lot {
+            start,
+            size: DataLen { len: 0 },
+        };
         Draft { mark, lot }
     }
 
     // Adds a packet behind the others; then the whole frame so far stands in the tray, and the mark behind it.
     pub fn add(&mut self, tray: &mut [u8], source: &[u8], packet: Record) -> Result<(), Refusal>
-        ensures says { result ≡ answered (judged (length source.now) packet.identifier packet.place packet.size self.old.lot.start self.old.lot.size (length tray.old)) }
+        ensures says { result ≡ answered (judged (length source.now) packet.identifier packet.place packet.size self.old.lot.start self.old.lot.size.len (length tray.old)) }
         ensures lends { self.new.mark.ghost_name ≡ self.old.mark.ghost_name }
         ensures old { self.new.lot.start ≡ self.old.lot.start }
         ensures does { MatchResult result (λ _. Added self.old self.new tray.old tray.new (asked source.now packet.identifier packet.place packet.size)) (λ _. (self.new ≡ self.old) × (tray.new ≡ tray.old)) }
@@ -122,12 +105,13 @@ impl<'m> Draft<'m> {
         let start = self.lot.start;
         let have = self.lot.size;
         let grown = judge(self.lot, tray.len(), source.len(), packet)?;
-        let end = start + frame_size(grown);
+        let end = start + grown.frame_size();
         let place = packet.place;
         let stop = place + packet.size;
         extend_frame(
             &mut tray[start..end],
             have,
+            grown,
             packet.identifier,
             &source[place..stop],
         );
@@ -138,11 +122,11 @@ impl<'m> Draft<'m> {
 
     // Ends the message. Nothing is written: the frame stands in the tray. Without a packet the mark is put back.
     pub fn close(self) -> Result<(), Refusal>
-        ensures says { result ≡ closing self.entry.lot.size }
+        ensures says { result ≡ closing self.entry.lot.size.len }
         ensures mark { self.exit.0.now ≡ (if is_ok result then self.entry.mark.now else self.entry.lot.start) }
         ensures reads { (items : List Item) (tray : List ℕ) → Holding items tray self.entry → Closed items tray self.entry result }
     {
-        if self.lot.size == 0 {
+        if self.lot.size.len == 0 {
             return Err(Refusal::NoPacket);
         }
         let Draft { mark: _, lot: _ } = self;

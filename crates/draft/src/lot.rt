@@ -1,10 +1,9 @@
 // What a draft knows of its frame.
-ghost use Rattle.std.specs.Prelude.{◌≤◌};
+use xbus::DataLen;
 
 // Where the frame begins, and how many data bytes it has so far.
 #[derive(Clone, Copy)]
 pub struct Lot {
     pub start: usize,
-    pub size: usize,
-    ghost short: { size ≤ 2048 },
+    pub size: DataLen,
 }

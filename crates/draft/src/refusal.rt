@@ -2,30 +2,25 @@
 ghost use Rattle.std.specs.Prelude.{◌≡◌};
 ghost use Rattle.draft.specs.Refusals.{number_of};
 
-#[derive(Clone, Copy)]
+// What is refused, as the number of the refusal.
+#[derive(Clone, Copy, Debug, PartialEq, Eq)]
 pub enum Refusal {
     // closing without a packet
-    NoPacket,
+    NoPacket = 9,
     // the record reaches past its bytes
-    PastBytes,
+    PastBytes = 10,
     // more than 255 data bytes, or not the data size of a known identifier
-    WrongSize,
+    WrongSize = 11,
     // more than 2,048 data bytes in the message
-    TooLong,
+    TooLong = 12,
     // the frame so far would not fit in the tray
-    NoRoom,
+    NoRoom = 13,
 }
 
 impl Refusal {
     pub fn number(&self) -> u8
         ensures { result ≡ number_of self.now }
     {
-        match self {
-            Refusal::NoPacket => 9,
-            Refusal::PastBytes => 10,
-            Refusal::WrongSize => 11,
-            Refusal::TooLong => 12,
-            Refusal::NoRoom => 13,
-        }
+        *self as u8
     }
 }

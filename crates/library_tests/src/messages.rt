@@ -24,54 +24,50 @@ fn products(rt: HostRuntime) -> Result<(), Fail> {
     Ok(())
 }
 
-// The number, layer and place of the fault: 0 where the message is accepted.
-fn fault_of(input: &[u8]) -> (u8, u8, usize) {
-    match read(input) {
-        Ok(_) => (0, 0, 0),
-        Err(fault) => {
-            let layer = match fault.layer() {
-                Layer::Frame => 1,
-                Layer::Message => 2,
-                Layer::Packet => 3,
-            };
-            (fault.number(), layer, fault.place)
-        }
-    }
+// The number, layer and place of the fault: none where the message is accepted.
+fn fault_of(input: &[u8]) -> Option<(u8, Layer, usize)> {
+    let fault = read(input).err()?;
+    Some((fault.number(), fault.layer(), fault.place))
 }
 
 #[test]
 fn faults(rt: HostRuntime) {
-    assert_eq!(rt; fault_of(&[]), (14, 1, 0));
-    assert_eq!(rt; fault_of(&[0xFA, 0xFF]), (15, 1, 2));
-    assert_eq!(rt; fault_of(&[0xFA, 0xFF, 0x36, 0xFF, 0x09, 0x00]), (16, 1, 4));
-    assert_eq!(rt; fault_of(&[0xFA, 0xFF, 0x36, 0x00, 0xCC]), (17, 1, 4));
-    assert_eq!(rt; fault_of(&[0xFA, 0x01, 0x36, 0x00, 0xC9]), (18, 2, 1));
-    assert_eq!(rt; fault_of(&[0xFA, 0xFF, 0x36, 0x00, 0xCB]), (19, 2, 4));
+    assert_eq!(rt; fault_of(&[]), Some((14, Layer::Frame, 0)));
+    assert_eq!(rt; fault_of(&[0xFA, 0xFF]), Some((15, Layer::Frame, 2)));
+    assert_eq!(rt;
+        fault_of(&[0xFA, 0xFF, 0x36, 0xFF, 0x09, 0x00]),
+        Some((16, Layer::Frame, 4))
+    );
+    assert_eq!(rt;
+        fault_of(&[0xFA, 0xFF, 0x36, 0x00, 0xCC]),
+        Some((17, Layer::Frame, 4))
+    );
+    assert_eq!(rt;
+        fault_of(&[0xFA, 0x01, 0x36, 0x00, 0xC9]),
+        Some((18, Layer::Message, 1))
+    );
+    assert_eq!(rt;
+        fault_of(&[0xFA, 0xFF, 0x36, 0x00, 0xCB]),
+        Some((19, Layer::Message, 4))
+    );
     assert_eq!(rt;
         fault_of(&[0xFA, 0xFF, 0x36, 0x02, 0x10, 0x20, 0x99]),
-        (20, 3, 4)
+        Some((20, Layer::Packet, 4))
     );
 }
 
 #[test]
 fn packets(rt: HostRuntime) -> Result<(), Fail> {
     let input = [0xFA, 0xFF, 0x36, 0x05, 0x10, 0x20, 0x02, 0x00, 0x07, 0x8D];
-    assert_eq!(rt; fault_of(&input), (0, 0, 0));
-    match next_packet(&input[4..9]) {
-        Some(
-            (
-                Packet::Whole {
-                    identifier,
-                    content,
-                },
-                behind,
-            ),
-        ) => {
-            assert_eq!(rt; identifier, 0x1020);
-            assert_eq!(rt; content, [0u8, 7].as_slice());
-            assert!(rt; behind.is_empty());
-            Ok(())
+    assert_eq!(rt; fault_of(&input), None);
+    let (packet, behind) = next_packet(&input[4..9]).ok_or("no packet")?;
+    assert_eq!(rt;
+        packet,
+        Packet::Whole {
+            identifier: 0x1020,
+            content: &[0, 7],
         }
-        _ => Err(Fail::new("no packet")),
-    }
+    );
+    assert!(rt; behind.is_empty());
+    Ok(())
 }

@@ -1,10 +1,12 @@
 -- The frame of a message: what is read of a frame, and what it is that is read, or why it is refused.
-use Rattle.std.proofs.Common.{◌≡◌, ℕ, ◌+◌, ◌-◌, ◌*◌, ◌/◌, ◌%◌, ◌<◌, ◌≤◌, true, false, cond, ◌&&◌, eqb, leb, ◌⊎◌, List, [], ◌∷◌, ◌++◌, length, get_or, take, drop, Ok, Err, Result, sym, refl, ap, ◌∙◌, subst, inl, inr, ⊎_elim, arith}
+use Rattle.std.proofs.Common.{◌≡◌, ℕ, ◌+◌, ◌-◌, ◌*◌, ◌/◌, ◌%◌, ◌<◌, ◌≤◌, true, false, cond, ◌&&◌, eqb, ltb, leb, ◌⊎◌, List, [], ◌∷◌, ◌++◌, length, get_or, take, drop, Ok, Err, Result, sym, refl, ap, ◌∙◌, subst, inl, inr, ⊎_elim, arith}
 use Rattle.std.proofs.lemmas.List.{append_assoc, length-append, length-take-le, take_all, take_at, take_more, take_rest, drop_at}
-use Rattle.std.proofs.lemmas.Bool.{leb-true, leb-false, eqb-true, eqb-false, eq-eqb, ne_eqb, le-leb, lt-leb, cond-true, cond-false, cases_lt, cases_Bool, and_parts, and_cases, and_from}
+use Rattle.std.proofs.lemmas.Bool.{leb-true, leb-false, eqb-true, eqb-false, eq-eqb, ne_eqb, lt-ltb, le-ltb, le-leb, lt-leb, cond-true, cond-false, cases_lt, cases_Bool, and_parts, and_cases, and_from}
 use Rattle.xbus.specs.Numbers.{Bytes}
+use Rattle.xbus.specs.declared.parts.Header.{Header}
 use Rattle.xbus.specs.Front.{total}
 use Rattle.xbus.specs.Frames.{header_of, checksum, enclosed, encoded}
+use Rattle.xbus.specs.Writing.{frame_size, content_start}
 use Rattle.xbus.proofs.Bytes.{bytes_at, bytes_take}
 use Rattle.xbus.proofs.Cases.{length_short, length_long, length_is_long, length_enclosed, checksum_sums, checksum_is}
 use Rattle.mtdata2.specs.Faults.{Report, frame_fault}
@@ -158,18 +160,30 @@ frame_back a i d h =
 
 -- ---- as the code has it: `&input[1..]` and `&input[start..start + n]`
 
-module _ (a i start n : ℕ) (xs : List ℕ) (s : ℕ) (size : length xs ≡ start + n + 1) (summed : s ≡ total (take (length xs - 1) (drop 1 xs)) % 256) where
+-- what stands around n data bytes
+pub frame_parts : (n : ℕ) → frame_size n ≡ content_start n + n + 1
+frame_parts n =
+    ⊎_elim
+    (λ l. let t = lt-ltb n 255 l in omega (arith, cond-true {A = ℕ} (ltb n 255) 4 6 t, cond-true {A = ℕ} (ltb n 255) (n + 5) (n + 7) t))
+    (λ l. let t = le-ltb n 255 l in omega (arith, cond-false {A = ℕ} (ltb n 255) 4 6 t, cond-false {A = ℕ} (ltb n 255) (n + 5) (n + 7) t))
+    (cases_lt n 255)
+
+module _ (h : Header) (n : ℕ) (xs : List ℕ) (s : ℕ) (size : length xs ≡ frame_size n) (summed : s ≡ total (take (length xs - 1) (drop 1 xs)) % 256) where
   sum_is : s ≡ total (drop 1 xs) % 256
   sum_is = summed ∙ ap (λ l. total l % 256) (take_rest xs 1)
 
-  sized : body_of a i start n xs ≡ cond (eqb (total (drop 1 xs) % 256) 0) (Ok (record { address = a; identifier = i; start = start; content = take n (drop start xs) })) (frame_fault 17 (length xs - 1))
-  sized = cond-true (eqb (length xs) (start + n + 1)) _ _ (eq-eqb _ _ size)
+  abbrev body : Result Parts Report
+  body = body_of h.address h.identifier (content_start n) n xs
 
-  pub body_unsealed : (s ≡ 0 → ⊥) → frame_fault 17 (length xs - 1) ≡ body_of a i start n xs
-  body_unsealed h = sym (sized ∙ cond-false (eqb (total (drop 1 xs) % 256) 0) _ _ (ne_eqb _ 0 (λ z. h (sum_is ∙ z))))
+  sized : body ≡ cond (eqb (total (drop 1 xs) % 256) 0) (Ok (record { address = h.address; identifier = h.identifier; start = content_start n; content = take n (drop (content_start n) xs) })) (frame_fault 17 (length xs - 1))
+  sized = cond-true (eqb (length xs) (content_start n + n + 1)) _ _ (eq-eqb _ _ (size ∙ frame_parts n))
 
-  pub body_sealed : (content : List ℕ) → s ≡ 0 → content ≡ take (start + n - start) (drop start xs) → Ok (record { address = a; identifier = i; start = start; content = content }) ≡ body_of a i start n xs
-  body_sealed content z c =
+  pub body_unsealed : (s ≡ 0 → ⊥) → frame_fault 17 (length xs - 1) ≡ body
+  body_unsealed u = sym (sized ∙ cond-false (eqb (total (drop 1 xs) % 256) 0) _ _ (ne_eqb _ 0 (λ z. u (sum_is ∙ z))))
+
+  pub body_sealed : (start : ℕ) (content : List ℕ) → s ≡ 0 → start ≡ content_start n → content ≡ take (start + n - start) (drop start xs) → Ok (record { address = h.address; identifier = h.identifier; start = start; content = content }) ≡ body
+  body_sealed start content z b c =
       let k : start + n - start ≡ n = omega arith in
-      ap (λ l. Ok (record { address = a; identifier = i; start = start; content = l })) (c ∙ ap (λ m. take m (drop start xs)) k)
+      let same : content ≡ take n (drop (content_start n) xs) = c ∙ (λ j. take (k j) (drop (b j) xs)) in
+      (λ j. Ok (record { address = h.address; identifier = h.identifier; start = b j; content = same j }))
       ∙ sym (sized ∙ cond-true (eqb (total (drop 1 xs) % 256) 0) _ _ (eq-eqb _ 0 (sym sum_is ∙ z)))

@@ -127,8 +127,12 @@ read_is b xs e f =
 pub cut_less : (p : ℕ) (xs t : List ℕ) {i : Item} → ◌≡◌ {A = Cut} (Ok (i, t)) (cut_of p xs) → length t + 3 ≤ length xs
 cut_less p xs t {i} e = cut_shorter p xs (i, t) (sym e)
 
-pub stepped : (p : ℕ) (xs t : List ℕ) {i : Item} → ◌≡◌ {A = Cut} (Ok (i, t)) (cut_of p xs) → done (packets_from (length t) (p + (length xs - length t)) t) ≡ done (packets_from (length xs) p xs)
-stepped p xs t {i} e = step p xs (i, t) (sym e)
+-- places count back from the end
+pub stepped : (end : ℕ) (xs t : List ℕ) {i : Item} → length xs ≤ end → ◌≡◌ {A = Cut} (Ok (i, t)) (cut_of (end - length xs) xs) → done (packets_from (length t) (end - length t) t) ≡ done (packets_from (length xs) (end - length xs) xs)
+stepped end xs t {i} h e =
+    let s = cut_less (end - length xs) xs t e in
+    let p : end - length xs + (length xs - length t) ≡ end - length t = omega arith in
+    ap (λ k. done (packets_from (length t) k t)) (sym p) ∙ step (end - length xs) xs (i, t) (sym e)
 
 -- ---- what is handed out
 

@@ -1,5 +1,5 @@
 -- Faults of a data message: number, layer and place.
-use Rattle.std.specs.Prelude.{ℕ, Ok, Err, Result}
+use Rattle.std.specs.Prelude.{ℕ, List, Ok, Err, Result, codes}
 use Rattle.mtdata2.specs.declared.fault.Fault.{Fault}
 use Rattle.mtdata2.specs.declared.fault.Layer.{Layer}
 use Rattle.mtdata2.specs.declared.fault.Layer.TheVariants as layer
@@ -29,6 +29,12 @@ layer_of NoPacket = layer.Message
 layer_of HeaderCut = layer.Packet
 layer_of ContentCut = layer.Packet
 layer_of WrongSize = layer.Packet
+
+-- how a layer is printed
+abbrev pub layer_name : Layer → List ℕ
+layer_name layer.Frame = codes "frame"
+layer_name layer.Message = codes "message"
+layer_name layer.Packet = codes "packet"
 
 -- what a fault carries
 pub record Report : Type 0 where

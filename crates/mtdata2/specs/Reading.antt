@@ -62,7 +62,7 @@ read_of xs = and_then (message_of xs) (λ m. packets_from (length m.content) m.s
 -- ---- as the code has it
 
 abbrev pub parts : Body → Parts
-parts b = record { address = b.address; identifier = b.identifier; start = b.start; content = b.content.now }
+parts b = record { address = b.header.address; identifier = b.header.identifier; start = b.start; content = b.content.now }
 
 abbrev pub seen_body : Result Body Fault → Result Parts Report
 seen_body (Ok b) = Ok (parts b)

@@ -7,5 +7,5 @@ mod message;
 mod packet;
 
 pub use fault::{Fault, Layer, Reason};
-pub use message::{Message, read};
+pub use message::{DATA_MESSAGE, Message, read};
 pub use packet::{Packet, Packets, next_packet, size_fits};

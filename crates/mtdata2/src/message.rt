@@ -7,10 +7,13 @@ ghost use Rattle.mtdata2.specs.Words.{ReadSaid};
 use crate::fault::{Fault, Reason};
 use crate::frame::{Body, read_frame};
 use crate::packet::{Packets, check_packets};
+use xbus::Header;
 
-const DATA_ADDRESS: u8 = 0xFF;
-
-const DATA_IDENTIFIER: u8 = 0x36;
+// The header of each data message.
+pub const DATA_MESSAGE: Header = Header {
+    address: 0xFF,
+    identifier: 0x36,
+};
 
 // A data message whose packets are all right.
 #[derive(Clone, Copy)]
@@ -23,23 +26,14 @@ fn read_message(input: &[u8]) -> Result<Body<'_>, Fault>
     ensures { seen_body result ≡ message_of input.now }
 {
     let body = read_frame(input)?;
-    if body.address != DATA_ADDRESS {
-        return Err(Fault {
-            reason: Reason::NotDataMessage,
-            place: 1,
-        });
+    if body.header.address != DATA_MESSAGE.address {
+        return Err(Reason::NotDataMessage.at(1));
     }
-    if body.identifier != DATA_IDENTIFIER {
-        return Err(Fault {
-            reason: Reason::NotDataMessage,
-            place: 2,
-        });
+    if body.header.identifier != DATA_MESSAGE.identifier {
+        return Err(Reason::NotDataMessage.at(2));
     }
     if body.content.is_empty() {
-        return Err(Fault {
-            reason: Reason::NoPacket,
-            place: body.start,
-        });
+        return Err(Reason::NoPacket.at(body.start));
     }
     Ok(body)
 }

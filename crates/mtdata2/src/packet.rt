@@ -8,7 +8,7 @@ use crate::fault::{Fault, Reason};
 use mti::{Kind, data_size, known};
 
 // A packet with its identifier and its data: real numbers, a whole number, or of an unknown identifier.
-#[derive(Clone, Copy)]
+#[derive(Clone, Copy, Debug, PartialEq, Eq)]
 pub enum Packet<'a> {
     Real { identifier: u16, content: &'a [u8] },
     Whole { identifier: u16, content: &'a [u8] },
@@ -20,9 +20,9 @@ impl<'a> Packet<'a> {
         ensures { result ≡ (item self.now).identifier }
     {
         match self {
-            Packet::Real { identifier, .. } => *identifier,
-            Packet::Whole { identifier, .. } => *identifier,
-            Packet::Unknown { identifier, .. } => *identifier,
+            Packet::Real { identifier, .. }
+            | Packet::Whole { identifier, .. }
+            | Packet::Unknown { identifier, .. } => *identifier,
         }
     }
 
@@ -31,9 +31,9 @@ impl<'a> Packet<'a> {
         ensures { result.now ≡ (item self.now).bytes }
     {
         match self {
-            Packet::Real { content, .. } => content,
-            Packet::Whole { content, .. } => content,
-            Packet::Unknown { content, .. } => content,
+            Packet::Real { content, .. }
+            | Packet::Whole { content, .. }
+            | Packet::Unknown { content, .. } => content,
         }
     }
 }
@@ -42,25 +42,20 @@ impl<'a> Packet<'a> {
 pub fn size_fits(identifier: u16, size: usize) -> bool
     ensures { result ≡ size_fits identifier size }
 {
-    match data_size(identifier) {
-        Some(right) => size == right,
-        None => true,
-    }
+    data_size(identifier).is_none_or(|right| size == right)
 }
 
 fn packet_of(identifier: u16, content: &[u8]) -> Packet<'_>
     ensures { item result ≡ item_of identifier content.now }
 {
-    match known(identifier) {
-        Some(output) => match output.channel.kind {
-            Kind::Real(_) => Packet::Real {
-                identifier,
-                content,
-            },
-            Kind::Whole(_) => Packet::Whole {
-                identifier,
-                content,
-            },
+    match known(identifier).map(|output| output.channel.kind) {
+        Some(Kind::Real(_)) => Packet::Real {
+            identifier,
+            content,
+        },
+        Some(Kind::Whole(_)) => Packet::Whole {
+            identifier,
+            content,
         },
         None => Packet::Unknown {
             identifier,
@@ -70,29 +65,21 @@ fn packet_of(identifier: u16, content: &[u8]) -> Packet<'_>
 }
 
 // The packet at the front of `rest`, which stands at `place`, and what is behind it.
+// Form: place and rest are two parameters, since `next_packet` hands on the rest alone.
 fn cut(rest: &[u8], place: usize) -> Result<(Packet<'_>, &[u8]), Fault>
     requires { place + length rest.now < 2 ^ 64 }
     ensures { seen_cut result ≡ cut_of place rest.now }
 {
     let [high, low, size, after @ ..] = rest else {
-        return Err(Fault {
-            reason: Reason::HeaderCut,
-            place,
-        });
+        return Err(Reason::HeaderCut.at(place));
     };
     let identifier = u16::from_be_bytes([*high, *low]);
     let size = usize::from(*size);
     if after.len() < size {
-        return Err(Fault {
-            reason: Reason::ContentCut,
-            place: place + 2,
-        });
+        return Err(Reason::ContentCut.at(place + 2));
     }
     if !size_fits(identifier, size) {
-        return Err(Fault {
-            reason: Reason::WrongSize,
-            place: place + 2,
-        });
+        return Err(Reason::WrongSize.at(place + 2));
     }
     let (content, behind) = after.split_at(size);
     Ok((packet_of(identifier, content), behind))
@@ -103,12 +90,10 @@ pub(crate) fn check_packets(content: &[u8], start: usize) -> Result<(), Fault>
     requires { start + length content.now < 2 ^ 64 }
     ensures { seen_done result ≡ done (packets_from (length content.now) start content.now) }
 {
+    let end = start + content.len();
     let mut rest = content;
-    let mut place = start;
     while !rest.is_empty() {
-        let (_, behind) = cut(rest, place)?;
-        place += rest.len() - behind.len();
-        rest = behind;
+        (_, rest) = cut(rest, end - rest.len())?;
     }
     Ok(())
 }

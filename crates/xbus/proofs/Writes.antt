@@ -26,6 +26,12 @@ four_is (x ∷ y ∷ []) a b c d h = absurd (omega arith)
 four_is (x ∷ y ∷ z ∷ []) a b c d h = absurd (omega arith)
 four_is (x ∷ y ∷ z ∷ w ∷ xs) a b c d h = refl
 
+pub start_short : (n : ℕ) → n < 255 → content_start n ≡ 4
+start_short n l = cond-true (ltb n 255) 4 6 (lt-ltb n 255 l)
+
+pub start_long : (n : ℕ) → 255 ≤ n → content_start n ≡ 6
+start_long n l = cond-false (ltb n 255) 4 6 (le-ltb n 255 l)
+
 -- what is known when r bytes of a header are written into xs
 pub record Header (a i n r : ℕ) (xs out : List ℕ) : Type 0 where
   pub bytes : take r out ≡ 0xFA ∷ header_of a i n
@@ -109,13 +115,13 @@ sealed_frame xs out a i start len s e l h t =
     ∙ ap (λ k. enclosed (header_of a i k ++ take len (drop (content_start len) xs))) (sym (content_long xs len e))
 
 -- data that are copied to their place stand there
-pub copied : (xs mid content : List ℕ) (a i start : ℕ) → start ≤ length xs → mid ≡ content → start ≡ content_start (length content) → encoded a i (take (length content) (drop (content_start (length content)) (put_mid start (start + length content - start) xs mid))) ≡ encoded a i content
-copied xs mid content a i start h e s =
-    let n : start + length content - start ≡ length content = omega arith in
-    let ys : List ℕ = put_mid start (start + length content - start) xs mid in
+pub copied : (xs mid content : List ℕ) (a i start len : ℕ) → len ≡ length content → start ≤ length xs → mid ≡ content → start ≡ content_start len → encoded a i (take len (drop (content_start len) (put_mid start (start + len - start) xs mid))) ≡ encoded a i content
+copied xs mid content a i start len l h e s =
+    let n : start + len - start ≡ len = omega arith in
+    let ys : List ℕ = put_mid start (start + len - start) xs mid in
     ap (encoded a i)
-    (ap (λ k. take (length content) (drop k ys)) (sym s) ∙ ap (λ k. take k (drop start ys)) (sym n)
-    ∙ between-put_mid start (start + length content - start) xs mid (start + length content) h (ap length e ∙ sym n) ∙ e)
+    (ap (λ k. take len (drop k ys)) (sym s) ∙ ap (λ k. take k (drop start ys)) (sym n)
+    ∙ between-put_mid start (start + len - start) xs mid (start + len) h (ap length e ∙ sym l ∙ sym n) ∙ e)
 
 -- ---- the place in the tray
 

@@ -40,7 +40,7 @@ first_parts xs = whole_parts (front_of xs) xs
 
 -- what the code hands out, without references
 abbrev pub seen : Frame → Parts
-seen f = record { address = f.address; identifier = f.identifier; content = f.content.now }
+seen f = record { address = f.header.address; identifier = f.header.identifier; content = f.content.now }
 
 -- parts and frames are each other's inverse
 pub record PartsInverse : Type 0 where

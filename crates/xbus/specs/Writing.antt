@@ -1,10 +1,19 @@
 -- A frame written at a place of a tray.
 use Rattle.std.specs.Prelude.{◌≡◌, ℕ, ◌+◌, ◌-◌, ◌≤◌, cond, ◌&&◌, List, ◌++◌, length, take, drop, Some, None, Ok, Err, Option, Result, nat_le, nat_lt}
 use Rattle.std.proofs.Math.Seq.{paste}
+use Rattle.xbus.specs.declared.data_len.DataLen.{DataLen}
 use Rattle.xbus.specs.declared.writing.WriteError.{WriteError}
 use Rattle.xbus.specs.declared.writing.WriteError.TheVariants.{TooLong, NoRoom}
 use Rattle.xbus.specs.Frames.{encoded}
 use Rattle.xbus.specs.Parts.{Parts, frame_of, first_parts}
+
+-- a number of data bytes, as a number
+abbrev pub count : DataLen → ℕ
+count n = n.len
+
+-- n, if a frame may have so many data bytes
+abbrev pub allowed : ℕ → Option ℕ
+allowed n = cond (nat_le n 2048) (Some n) None
 
 -- the bytes of a frame with n data bytes
 abbrev pub frame_size : ℕ → ℕ

@@ -4,9 +4,11 @@ ghost use Rattle.xbus.specs.Front.{total, announced, front_of};
 ghost use Rattle.xbus.specs.Numbers.{Bytes};
 ghost use Rattle.xbus.specs.Frames.{FrontSaid, Stays, Bounded};
 
-pub(crate) const START: u8 = 0xFA;
+// The first byte of each frame.
+pub const START: u8 = 0xFA;
 
-pub(crate) const EXTENDED: u8 = 0xFF;
+// In place of a length of one byte: two bytes with the length follow.
+pub const EXTENDED: u8 = 0xFF;
 
 // The most data bytes that a frame holds.
 pub const MOST_DATA: usize = 2048;

@@ -1,12 +1,14 @@
 // Xbus frames: numbers and checksum, what stands at the front of a list of bytes, the parts of a frame, writing one.
 #![tactic(auto)]
 
+mod data_len;
 mod front;
 mod numbers;
 mod parts;
 mod writing;
 
-pub use front::{Front, MOST_DATA, at_front, sum};
+pub use data_len::DataLen;
+pub use front::{EXTENDED, Front, MOST_DATA, START, at_front, sum};
 pub use numbers::{number, put_number};
-pub use parts::{Frame, first_frame};
+pub use parts::{Frame, Header, first_frame};
 pub use writing::{WriteError, seal_frame, write_frame};

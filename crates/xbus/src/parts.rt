@@ -5,11 +5,17 @@ ghost use Rattle.xbus.specs.Parts.{around, parts_of, first_parts, seen, PartsInv
 
 use crate::front::{EXTENDED, Front, classify};
 
-// A frame's address, identifier and data, which is a part of the bytes read.
-#[derive(Clone, Copy)]
-pub struct Frame<'a> {
+// What a frame says of itself in front of its data.
+#[derive(Clone, Copy, Debug, PartialEq)]
+pub struct Header {
     pub address: u8,
     pub identifier: u8,
+}
+
+// A frame's header and data, which are a part of the bytes read.
+#[derive(Clone, Copy, Debug, PartialEq)]
+pub struct Frame<'a> {
+    pub header: Header,
     pub content: &'a [u8],
 }
 
@@ -20,8 +26,10 @@ fn split_frame(frame: &[u8]) -> Frame<'_>
 {
     let start = if frame[3] == EXTENDED { 6 } else { 4 };
     Frame {
-        address: frame[1],
-        identifier: frame[2],
+        header: Header {
+            address: frame[1],
+            identifier: frame[2],
+        },
         content: &frame[start..frame.len() - 1],
     }
 }

@@ -44,9 +44,9 @@ returns-in_err-add c input msg =
     let steps = c.in-Some.ensures.steps in
     let e = c.in_err-add.field-0.0 in
     let p = subst (Progress all m t c.loop-packet.tray d) steps c.loop-packet.invariant.3 in
-    let says : Err e ≡ answered (judged (length content) i.identifier 0 (length content) d.lot.start d.lot.size (length c.loop-packet.tray)) =
+    let says : Err e ≡ answered (judged (length content) i.identifier 0 (length content) d.lot.start d.lot.size.len (length c.loop-packet.tray)) =
     c.in_err-add.ensures.says
-    ∙ ap (λ k. answered (judged (length content) k 0 (length content) d.lot.start d.lot.size (length c.loop-packet.tray))) c.identifier.ensures in
+    ∙ ap (λ k. answered (judged (length content) k 0 (length content) d.lot.start d.lot.size.len (length c.loop-packet.tray))) c.identifier.ensures in
     refused_at input all m c.args.mark.now t c.loop-packet.tray d msg c.begin-draft.ensures.old
     c.add.new.tray i left content e c.from_residual.result _ p c.content-content.ensures says (search rules) (search rules)
 

@@ -4,6 +4,7 @@ use Rattle.xbus.proofs.writing.fill_frame.Goals as goal
 
 pub returns : goal.returns
 returns c =
+    let header = c.args.frame.header in
     c.seal.ensures
-    ∙ copied c.args.out.now c.copy_from_slice.new.self c.args.content.now c.args.address c.args.identifier
-    c.content_start-start.result (search rules) c.copy_from_slice.ensures.after c.content_start-start.ensures
+    ∙ copied c.args.out.now c.copy_from_slice.new.self c.args.frame.content.now header.address header.identifier
+    c.content_start-start.result c.args.len.len c.requires.0 (search rules) c.copy_from_slice.ensures.after c.content_start-start.ensures

@@ -12,8 +12,8 @@ extend_frame-requires c =
     let t = c.args.tray.now in
     let d = c.args.self.now in
     let p = c.args.packet in
-    let a = accepted (length s) p.identifier p.place p.size d.lot.start d.lot.size (length t) c.in_ok-grown.grown c.in_ok-grown.ensures in
-    extends s p.identifier p.place p.size d.lot.start d.lot.size (length t) c.in_ok-grown.grown a t c.frame_size.result refl c.frame_size.ensures
+    let a = accepted (length s) p.identifier p.place p.size d.lot.start d.lot.size.len (length t) c.in_ok-grown.grown.len c.in_ok-grown.ensures in
+    extends s p.identifier p.place p.size d.lot.start d.lot.size.len (length t) c.in_ok-grown.grown.len a t c.frame_size.result refl c.frame_size.ensures
 
 pub returns : goal.returns
 returns c =
@@ -21,13 +21,13 @@ returns c =
     let t = c.args.tray.now in
     let d = c.args.self.now in
     let p = c.args.packet in
-    let g = c.in_ok-grown.grown in
-    let a = accepted (length s) p.identifier p.place p.size d.lot.start d.lot.size (length t) g c.in_ok-grown.ensures in
+    let g = c.in_ok-grown.grown.len in
+    let a = accepted (length s) p.identifier p.place p.size d.lot.start d.lot.size.len (length t) g c.in_ok-grown.ensures in
     let i = asked s p.identifier p.place p.size in
-    let l = part_length s p.identifier p.place p.size d.lot.start d.lot.size (length t) g a in
-    let gi : g ≡ grown d.lot.size (length i.bytes) = a.is ∙ ap (grown d.lot.size) (sym l) in
-    let tray_is = laid_is s p.identifier p.place p.size d.lot.start d.lot.size (length t) g a t c.extend_frame.new.frame c.frame_size.result refl c.frame_size.ensures c.extend_frame.ensures in
-    let well = asked_well_formed s p.identifier p.place p.size d.lot.start d.lot.size (length t) g a (search rules) (bytes_all s (λ k h. (c.type_inv.source k).fits)) in
+    let l = part_length s p.identifier p.place p.size d.lot.start d.lot.size.len (length t) g a in
+    let gi : g ≡ grown d.lot.size.len (length i.bytes) = a.is ∙ ap (grown d.lot.size.len) (sym l) in
+    let tray_is = laid_is s p.identifier p.place p.size d.lot.start d.lot.size.len (length t) g a t c.extend_frame.new.frame c.frame_size.result refl c.frame_size.ensures c.extend_frame.ensures in
+    let well = asked_well_formed s p.identifier p.place p.size d.lot.start d.lot.size.len (length t) g a (search rules) (bytes_all s (λ k h. (c.type_inv.source k).fits)) in
     record {
       says = search rules;
       lends = search rules;
