@@ -1,10 +1,11 @@
 -- The spaces, the first word and the rest are the line, and it is the first of all words.
-use Rattle.std.proofs.Common.{not, position, unwrap_or, ◌≡◌, ℕ, suc, ◌+◌, ◌<◌, false, eqb, List, [], ◌∷◌, ◌++◌, length, get_or, drop, replicate, Some, None, filter, Option, sym, refl, ap, ◌∙◌, subst, ⊎_elim, arith, Bor, MatchOption}
+use Rattle.std.proofs.Common.{◌-◌, take, not, position, unwrap_or, ◌≡◌, ℕ, suc, ◌+◌, ◌<◌, false, eqb, List, [], ◌∷◌, ◌++◌, length, get_or, drop, replicate, Some, None, filter, Option, sym, refl, ap, ◌∙◌, subst, ⊎_elim, arith, Bor, MatchOption}
 use Rattle.std.specs.Option.{option_map}
 use Rattle.std.specs.Prelude.{◌==◌}
 use Rattle.std.specs.List.{AllByRecursion, position_or_len}
-use Rattle.std.proofs.lemmas.List.{length-append}
+use Rattle.std.proofs.lemmas.List.{drop_all, take_rest, length-append}
 use Rattle.std.proofs.lemmas.Bool.{eqb-true, cases_Bool}
+use Rattle.std.proofs.lemmas.List.Quantifiers.{position-Some}
 use Rattle.lines.specs.Cuts.{before, from, seen}
 use Rattle.lines.specs.Words.{past_spaces, word_at, next_word, some, words_of, WordOf}
 use Rattle.lines.proofs.Cutting.{place, before_from, none_before, behind, pieces_cut}
@@ -19,8 +20,14 @@ behind_spaces (x ∷ xs) =
     one_more : (n : ℕ) → 1 + n ≡ suc n
     one_more n = omega arith
 
-pub spaces_passed : (xs : List ℕ) (r : Option ℕ) → r ≡ position (λ x. not (x == 32)) xs → drop (unwrap_or r (length xs)) xs ≡ past_spaces xs
+spaces_passed : (xs : List ℕ) (r : Option ℕ) → r ≡ position (λ x. not (x == 32)) xs → drop (unwrap_or r (length xs)) xs ≡ past_spaces xs
 spaces_passed xs r e = ap (λ n. drop n xs) (place _ xs r e) ∙ behind_spaces xs
+
+pub no_word : (line : List ℕ) (r : Option ℕ) → r ≡ position (λ x. not (x == 32)) line → r ≡ None → None ≡ next_word line
+no_word line r p e = ap word_at (sym (drop_all (length line) line (omega arith)) ∙ spaces_passed line None (sym e ∙ p))
+
+pub word_there : (line : List ℕ) (r : Option ℕ) (n : ℕ) → r ≡ position (λ x. not (x == 32)) line → r ≡ Some n → (take (length line - n) (drop n line) ≡ past_spaces line) × (n < length line)
+word_there line r n p e = (take_rest line n ∙ spaces_passed line (Some n) (sym e ∙ p), (position-Some _ line n 0 (sym p ∙ e)).0)
 
 spaces_whole : (xs : List ℕ) → (n : ℕ) × (replicate n 32 ++ past_spaces xs ≡ xs)
 spaces_whole [] = (0, refl)

@@ -1,5 +1,5 @@
 -- Why the bytes of a line cannot be read. Assumes nothing.
-use Rattle.std.specs.Prelude.{◌≡◌, ℕ, Bool, true, false, List, [], ◌∷◌, is_some, None}
+use Rattle.std.specs.Prelude.{◌≡◌, ℕ, Bool, true, false, List, [], ◌∷◌, is_some, None, codes}
 use Rattle.lines.specs.declared.words.LineFault.{LineFault}
 use Rattle.lines.specs.declared.words.LineFault.TheVariants.{NotAByte, Memory}
 use Rattle.lines.specs.Words.{words_of}
@@ -14,3 +14,8 @@ first_is_byte (w ∷ ws) = is_some (byte_of w)
 abbrev pub Faulty : LineFault → List ℕ → Type 0
 Faulty NotAByte line = bytes_of line ≡ None
 Faulty Memory line = first_is_byte (words_of line) ≡ true
+
+-- a fault as it is printed
+abbrev pub fault_text : LineFault → List ℕ
+fault_text NotAByte = codes "not a byte"
+fault_text Memory = codes "no memory"

@@ -6,13 +6,12 @@ ghost use Rattle.lines.specs.Decimals.{with_digit, decimal_of, DecimalReadsBack}
 fn with_digit(n: u64, c: u8) -> Option<u64>
     ensures { result ≡ with_digit n c }
 {
-    match c {
-        b'0'..=b'9' => n.checked_mul(10)?.checked_add(u64::from(c - b'0')),
-        _ => None,
-    }
+    let digit = char::from(c).to_digit(10)?;
+    n.checked_mul(10)?.checked_add(u64::from(digit))
 }
 
 // The number that one or more decimal digits stand for, or none if it is 2^64 or more.
+// Form: digit by digit, since parse would read a word with a plus sign in front too.
 pub fn decimal_of(word: &[u8]) -> Option<u64>
     ensures value { result ≡ decimal_of word.now }
     ensures back { DecimalReadsBack }

@@ -8,15 +8,11 @@ fn value(c: u8) -> Option<u8>
     ensures value { result ≡ hex_value c }
     ensures bound { IfSome result (λ n. n < 16) }
 {
-    match c {
-        b'0'..=b'9' => Some(c - b'0'),
-        b'A'..=b'F' => Some(c - b'A' + 10),
-        b'a'..=b'f' => Some(c - b'a' + 10),
-        _ => None,
-    }
+    char::from(c).to_digit(16).map(|n| n as u8)
 }
 
 // The upper-case digit for a number below 16.
+// Form: by hand, since char::from_digit gives lower-case digits.
 fn digit(n: u8) -> u8
     requires { n < 16 }
     ensures { result ≡ hex_digit n }
@@ -25,6 +21,7 @@ fn digit(n: u8) -> u8
 }
 
 // The byte that exactly two hexadecimal digits stand for, or none.
+// Form: digit by digit, since from_str_radix would read a word with a plus sign in front too.
 pub fn byte_of(word: &[u8]) -> Option<u8>
     ensures value { result ≡ byte_of word.now }
     ensures back { IfSome result (λ b. digits_of b ≡ map to_ascii_uppercase word.now) }

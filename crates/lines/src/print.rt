@@ -8,14 +8,12 @@ use std::alloc::AllocError;
 use std::str;
 
 // Appends a space and the two digits of a byte, or nothing.
+// Form: the text is made first, since write! says nothing of what it appended where memory ran out.
 fn push_byte(out: &mut String, byte: u8) -> Result<(), AllocError>
     ensures { string_bytes out.new ≡ (if is_ok result then string_bytes out.old ++ (32 ∷ digits_of byte) else string_bytes out.old) }
 {
     let [high, low] = digits(byte);
-    match str::from_utf8(&[b' ', high, low]) {
-        Ok(text) => out.push_str(text),
-        Err(_) => unreachable(),
-    }
+    out.push_str(str::from_utf8(&[b' ', high, low]).unwrap())
 }
 
 // Appends a space and the two digits of each byte. Where memory runs out, the first bytes are appended.

@@ -4,14 +4,16 @@ ghost use Rattle.std.specs.Option.{option_map};
 ghost use Rattle.std.specs.Iterator.{at_most};
 ghost use Rattle.std.specs.List.{AllByRecursion};
 ghost use Rattle.lines.specs.Bytes.{bytes_of};
-ghost use Rattle.lines.specs.Faults.{Faulty};
+ghost use Rattle.lines.specs.Faults.{Faulty, fault_text};
 ghost use Rattle.lines.specs.declared.words.LineFault.TheVariants.{Memory};
 ghost use Rattle.lines.specs.Cuts.{seen};
-ghost use Rattle.lines.specs.Words.{past_spaces, next_word, words_of, WordOf, word_steps};
+ghost use Rattle.lines.specs.Words.{next_word, words_of, WordOf, word_steps};
 
 use crate::cut::cut;
 use crate::hex::byte_of;
 use std::alloc::{AllocError, AllocFailed, Global};
+use std::error::Error;
+use std::fmt;
 
 const SPACE: u8 = b' ';
 
@@ -23,6 +25,19 @@ pub enum LineFault {
     // there is no memory for the bytes
     Memory,
 }
+
+impl fmt::Display for LineFault {
+    ghost output = { λ fault. Some (fault_text fault) };
+
+    fn fmt<W: fmt::Write>(&self, f: &mut fmt::Formatter<W>) -> fmt::Result {
+        f.write_str(match self {
+            LineFault::NotAByte => "not a byte",
+            LineFault::Memory => "no memory",
+        })
+    }
+}
+
+impl Error for LineFault {}
 
 impl From<AllocError> for LineFault {
     ghost from_gives = { λ _ r. r ≡ Memory };
@@ -40,19 +55,11 @@ impl<T: Drop> From<AllocFailed<T>> for LineFault {
     }
 }
 
-// The place of the first byte that is not `skipped`.
-fn first_other(line: &[u8], skipped: u8) -> Option<usize>
-    ensures { result ≡ position (λ b. not (b == skipped)) line.now }
+// The place of the first byte that is no space.
+fn word_start(line: &[u8]) -> Option<usize>
+    ensures { result ≡ position (λ b. not (b == 32)) line.now }
 {
-    line.iter().position(|b| *b != skipped)
-}
-
-// The line from its first byte on that is no space.
-fn past_spaces(line: &[u8]) -> &[u8]
-    ensures { result.now ≡ past_spaces line.now }
-{
-    let spaces = first_other(line, SPACE).unwrap_or(line.len());
-    &line[spaces..]
+    line.iter().position(|b| *b != SPACE)
 }
 
 // The first word of a line, and the line behind it.
@@ -61,11 +68,8 @@ pub fn next_word(line: &[u8]) -> Option<(&[u8], &[u8])>
     ensures parts { MatchOption result (AllByRecursion (λ x. x ≡ 32) line.now) (λ q. WordOf line.now q.0.now q.1.now) }
     ensures words { MatchOption result (words_of line.now ≡ []) (λ q. words_of line.now ≡ q.0.now ∷ words_of q.1.now) }
 {
-    let rest = past_spaces(line);
-    if rest.is_empty() {
-        return None;
-    }
-    Some(cut(rest, SPACE))
+    let start = word_start(line)?;
+    Some(cut(&line[start..], SPACE))
 }
 
 // The words of a line, in order.

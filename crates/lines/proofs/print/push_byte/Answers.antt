@@ -3,7 +3,8 @@ use Rattle.std.proofs.Common.{arith, rules}
 use Rattle.lines.proofs.Printing.{digits_ascii, three_text}
 use Rattle.lines.proofs.print.push_byte.Goals as goal
 
-pub unreachable-requires : goal.unreachable-requires
-unreachable-requires c =
+pub unwrap-requires : goal.unwrap-requires
+unwrap-requires c =
     let d = digits_ascii c.digits.result c.args.byte (search rules) c.digits.ensures.value in
-    c.in-Err.ensures.cases.0 (three_text _ _ _ (omega arith) (omega arith) (omega arith))
+    let t = three_text 32 _ _ (omega arith) d.0 d.1 in
+    search (rules, t)
