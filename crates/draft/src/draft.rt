@@ -36,6 +36,7 @@ fn judge(lot: Lot, room: usize, source: usize, packet: Record) -> Result<DataLen
 }
 
 // Writes a packet: identifier, size and data.
+// Form: identifier and data are two parameters, since only this function and `extend_frame` take both.
 fn put_packet(out: &mut [u8], identifier: u16, content: &[u8])
     requires { (length content.now ≤ 255) × (length out.old ≡ 3 + length content.now) }
     ensures { out.new ≡ packet_bytes (item_of identifier content.now) }
