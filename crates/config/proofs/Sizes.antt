@@ -1,18 +1,16 @@
 -- The sizes of data, and bytes written entry after entry.
-use Rattle.std.proofs.Common.{◌≡◌, ℕ, ◌+◌, ◌*◌, ◌<◌, ◌≤◌, List, [], ◌∷◌, ◌++◌, length, replicate, get_or, take, drop, Some, None, Option, sym, refl, ap, ◌∙◌, append-nil, div-one, ◌/◌, ◌%◌, ◌-◌, arith}
+use Rattle.std.proofs.Common.{◌≡◌, ℕ, ◌+◌, ◌*◌, ◌<◌, ◌≤◌, List, [], ◌∷◌, ◌++◌, length, replicate, get_or, take, Some, None, Option, sym, refl, ap, ◌∙◌, append-nil, div-one, ◌/◌, ◌%◌, ◌-◌, arith}
+use Rattle.std.specs.List.{sum_by}
+use Rattle.std.proofs.lemmas.List.Sums.{sum_by-cons}
 use borrow.Rule.Slice.PartMut.{put_mid}
 use Rattle.std.proofs.lemmas.Slice.{take-put_mid}
-use Rattle.std.proofs.lemmas.List.{take_more, at_drop_more}
+use Rattle.std.proofs.lemmas.List.{take_more}
 use Rattle.mti.specs.Identifiers.{data_size_of, Bounded}
 use Rattle.mti.proofs.Named.{size_bounded}
 use Rattle.xbus.specs.Numbers.{be}
 use Rattle.settings.specs.declared.record.Entry.{Entry}
 use Rattle.settings.specs.Values.{entry}
 use Rattle.config.specs.Answered.{configured, packet_bytes, data_bytes, output_bytes}
-
-pub data_more : (es : List Entry) (i : ℕ) → i < length es
-    → data_bytes (drop i es) ≡ packet_bytes (data_size_of (get_or es i (entry 0 0)).identifier) + data_bytes (drop (i + 1) es)
-data_more es i h = at_drop_more data_bytes es i (entry 0 0) h
 
 packet_bounded : (r : Option ℕ) → Bounded r → packet_bytes r ≤ 75
 packet_bounded None b = omega arith
@@ -54,3 +52,10 @@ pub configured_is : (id size : ℕ)
     ≡ configured id size
 configured_is id size =
     λ t. four_bytes id t ++ replicate 92 0 ++ (0 ∷ 1 ∷ []) ++ four_bytes id t ++ two_bytes size t ++ replicate 14 0
+
+abbrev pub entry_bytes : Entry → ℕ
+entry_bytes e = packet_bytes (data_size_of e.identifier)
+
+pub data_sum : (es : List Entry) → sum_by entry_bytes es ≡ data_bytes es
+data_sum [] = refl
+data_sum (e ∷ es) = sum_by-cons entry_bytes e es ∙ ap (λ n. entry_bytes e + n) (data_sum es)

@@ -50,6 +50,7 @@ fn lay(out: &mut [u8], bytes: &[u8]) -> Option<usize>
     Some(len)
 }
 
+// Form: settings and device ID stay two parameters, since only this function and Configuration take both.
 // Writes the answer at the front, and says how many bytes it has; none, and nothing is written, if it does not fit.
 #[tactic(auto, using(crate::proofs::Layouts::answer_bound), unfolding(crate::specs::Answered::answer_of))]
 pub fn answer(

@@ -21,11 +21,11 @@ fn packet_bytes(identifier: u16) -> usize
 fn data_bytes(entries: &Entries) -> u16
     ensures { result ≡ data_bytes (listed entries.now) }
 {
-    let mut sum = 0;
-    for entry in entries.as_slice() {
-        sum += packet_bytes(entry.identifier) as u16;
-    }
-    sum
+    entries
+        .as_slice()
+        .iter()
+        .map(|entry| packet_bytes(entry.identifier))
+        .sum::<usize>() as u16
 }
 
 // The device ID, zeros, 0001, the device ID again, the size of all data, and zeros.
