@@ -1,5 +1,5 @@
 // Lines, words and bytes in hexadecimal.
-use lines::{byte_of, bytes_of, decimal_of, next_line, next_word, push_bytes};
+use lines::{byte_of, bytes_of, decimal_of, lines_in, next_line, next_word, push_bytes, words_in};
 use std::test::Fail;
 
 #[test]
@@ -12,6 +12,8 @@ fn words_of_a_line(rt: HostRuntime) -> Result<(), Fail> {
     assert_eq!(rt; behind, b" FA".as_slice());
     assert!(rt; next_word(b"   ").is_none());
     assert!(rt; next_line(b"").is_none());
+    assert_eq!(rt; words_in(b"  f FA").count(), 2);
+    assert_eq!(rt; lines_in(b"  f FA\r\nr").count(), 2);
     Ok(())
 }
 
@@ -27,9 +29,7 @@ fn numbers_of_words(rt: HostRuntime) {
 
 #[test]
 fn bytes_of_a_line(rt: HostRuntime) -> Result<(), Fail> {
-    let Ok(bytes) = bytes_of(rt.alloc(), b" FA 0b ") else {
-        return Err(Fail::new("not read"));
-    };
+    let bytes = bytes_of(rt.alloc(), b" FA 0b ")?;
     assert_eq!(rt; bytes.as_slice(), [0xFAu8, 0x0B].as_slice());
     assert!(rt; bytes_of(rt.alloc(), b"FA 1").is_err());
     let mut text = String::new(rt.alloc());

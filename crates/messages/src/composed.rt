@@ -1,90 +1,72 @@
 // A data message composed of packets that a line writes as IDENTIFIER:BYTES, and read back.
-use crate::Misread;
+use crate::fault::{LineError, Misread};
 use crate::message::print_message;
 use crate::recording::print_bytes;
 use draft::{Draft, Record, Refusal};
-use lines::{byte_of, next_word};
+use lines::{byte_of, words_in};
+use std::alloc::Global;
+use stream::LONGEST;
 
-// The bytes of the longest frame.
-const TRAY: usize = 2055;
-
-// The packets of a line: their data one behind the other, and a record for each.
+// A packet of a line.
 #[derive(Drop)]
-struct Packets {
-    source: Vec<u8>,
-    records: Vec<Record>,
+pub struct Packet {
+    identifier: u16,
+    content: Vec<u8>,
 }
 
-// Reads pairs of hexadecimal digits without spaces; false at anything else.
-fn read_pairs(digits: &[u8], out: &mut Vec<u8>) -> anyhow::Result<bool> {
-    let mut rest = digits;
-    while let [high, low, behind @ ..] = rest {
-        let Some(byte) = byte_of(&[*high, *low]) else {
-            return Ok(false);
-        };
-        out.push(byte)?;
-        rest = behind;
+// The bytes that pairs of hexadecimal digits without spaces stand for.
+fn read_pairs(heap: Global, digits: &[u8]) -> Result<Vec<u8>, LineError> {
+    let mut bytes = Vec::new(heap);
+    for pair in digits.chunks(2) {
+        bytes.push(byte_of(pair).ok_or(Misread::NotAPacket)?)?;
     }
-    Ok(rest.is_empty())
+    Ok(bytes)
 }
 
-// Reads one packet, IDENTIFIER:BYTES; false at anything else.
-fn read_packet(word: &[u8], packets: &mut Packets) -> anyhow::Result<bool> {
+// Reads one packet, IDENTIFIER:BYTES.
+fn read_packet(heap: Global, word: &[u8]) -> Result<Packet, LineError> {
     let [a, b, c, d, b':', digits @ ..] = word else {
-        return Ok(false);
+        return Err(Misread::NotAPacket.into());
     };
-    let Some(high) = byte_of(&[*a, *b]) else {
-        return Ok(false);
-    };
-    let Some(low) = byte_of(&[*c, *d]) else {
-        return Ok(false);
-    };
-    let place = packets.source.len();
-    let read = read_pairs(digits, &mut packets.source)?;
-    let size = packets.source.len().saturating_sub(place);
-    packets.records.push(Record {
+    let high = byte_of(&[*a, *b]).ok_or(Misread::NotAPacket)?;
+    let low = byte_of(&[*c, *d]).ok_or(Misread::NotAPacket)?;
+    Ok(Packet {
         identifier: u16::from_be_bytes([high, low]),
-        place,
-        size,
-    })?;
-    Ok(read)
+        content: read_pairs(heap, digits)?,
+    })
 }
 
-// Reads the packets of a line; none if a word is not a packet.
-fn read_packets(rt: &HostRuntime, line: &[u8]) -> anyhow::Result<Option<Packets>> {
-    let mut packets = Packets {
-        source: Vec::new(rt.alloc()),
-        records: Vec::new(rt.alloc()),
-    };
-    let mut rest = line;
-    while let Some((word, behind)) = next_word(rest) {
-        if !read_packet(word, &mut packets)? {
-            return Ok(None);
-        }
-        rest = behind;
+// Reads the packets of a line.
+pub fn read_packets(heap: Global, line: &[u8]) -> Result<Vec<Packet>, LineError> {
+    let mut packets = Vec::new(heap);
+    for word in words_in(line) {
+        packets.push(read_packet(heap, word)?)?;
     }
-    Ok(Some(packets))
+    Ok(packets)
 }
 
 // Composes the packets at the mark of the tray.
-fn compose_at(mark: &mut usize, tray: &mut [u8], packets: &Packets) -> Result<(), Refusal> {
+fn compose_at(mark: &mut usize, tray: &mut [u8], packets: &[Packet]) -> Result<(), Refusal> {
     let mut draft = Draft::begin(mark);
-    for record in packets.records.as_slice() {
-        draft.add(tray, packets.source.as_slice(), *record)?;
+    for packet in packets {
+        let content = packet.content.as_slice();
+        let record = Record {
+            identifier: packet.identifier,
+            place: 0,
+            size: content.len(),
+        };
+        draft.add(tray, content, record)?;
     }
     draft.close()
 }
 
 // Prints the composed frame and what it reads back as, or the refusal.
-pub fn print_composed(rt: &HostRuntime, line: &[u8]) -> anyhow::Result<Option<Misread>> {
-    let Some(packets) = read_packets(rt, line)? else {
-        return Ok(Some(Misread::NotAPacket));
-    };
-    let mut tray = [0u8; TRAY];
+pub fn print_composed(rt: &HostRuntime, packets: &[Packet]) -> anyhow::Result<()> {
+    let mut tray = [0u8; LONGEST];
     let mut mark = 0;
-    match compose_at(&mut mark, &mut tray, &packets) {
+    match compose_at(&mut mark, &mut tray, packets) {
         Ok(()) => {
-            let frame = &tray[0..mark.min(TRAY)];
+            let frame = &tray[0..mark.min(LONGEST)];
             print_bytes(rt, "frame", frame)?;
             print_message(rt, frame)?;
         }
@@ -93,5 +75,5 @@ pub fn print_composed(rt: &HostRuntime, line: &[u8]) -> anyhow::Result<Option<Mi
             println!(rt; "refused {number}")?;
         }
     }
-    Ok(None)
+    Ok(())
 }

@@ -2,92 +2,58 @@
 #![tactic(auto)]
 
 mod composed;
+mod fault;
 mod message;
 mod reading;
 mod recording;
 
-use anyhow::anyhow;
-use composed::print_composed;
-use lines::{LineFault, bytes_of, next_line, next_word};
+use composed::{print_composed, read_packets};
+use fault::{LineError, Misread};
+use lines::{bytes_of, lines_in, next_word};
 use message::print_message;
-use reading::{print_many, print_reading};
+use reading::{print_many, print_reading, read_number, read_seed_and_count};
 use recording::print_recording;
 use std::io::Read;
 use std::process::ExitCode;
 
-// Why a line is not understood.
-#[derive(Drop)]
-pub enum Misread {
-    UnknownCommand,
-    NotAByte,
-    NotAPacket,
-    NotANumber,
-}
-
-impl Misread {
-    fn why(&self) -> &'static str {
-        match self {
-            Misread::UnknownCommand => "unknown command",
-            Misread::NotAByte => "not a byte",
-            Misread::NotAPacket => "not a packet",
-            Misread::NotANumber => "not a number",
-        }
-    }
-}
-
-// Prints what a recording (`f`) or a data message (`r`) holds.
-fn answer_bytes(rt: &HostRuntime, recording: bool, line: &[u8]) -> anyhow::Result<Option<Misread>> {
-    let bytes = match bytes_of(rt.alloc(), line) {
-        Ok(bytes) => bytes,
-        Err(LineFault::NotAByte) => return Ok(Some(Misread::NotAByte)),
-        Err(LineFault::Memory) => return Err(anyhow!("no memory")),
-    };
-    if recording {
-        print_recording(rt, bytes.as_slice())?;
-    } else {
-        print_message(rt, bytes.as_slice())?;
-    }
-    Ok(None)
-}
-
-// Does what a line asks for, or says why not.
-fn answer(rt: &HostRuntime, line: &[u8]) -> anyhow::Result<Option<Misread>> {
+// Does what a line asks for.
+fn answer(rt: &HostRuntime, line: &[u8]) -> Result<(), LineError> {
     let Some((command, rest)) = next_word(line) else {
-        return Ok(None);
+        return Ok(());
     };
     match command {
-        b"f" => answer_bytes(rt, true, rest),
-        b"r" => answer_bytes(rt, false, rest),
-        b"c" => print_composed(rt, rest),
-        b"v" => print_reading(rt, rest),
-        b"n" => print_many(rt, rest),
-        _ => Ok(Some(Misread::UnknownCommand)),
+        b"f" => print_recording(rt, bytes_of(rt.alloc(), rest)?.as_slice())?,
+        b"r" => print_message(rt, bytes_of(rt.alloc(), rest)?.as_slice())?,
+        b"c" => print_composed(rt, read_packets(rt.alloc(), rest)?.as_slice())?,
+        b"v" => print_reading(rt, read_number(rest)?)?,
+        b"n" => {
+            let (seed, count) = read_seed_and_count(rest)?;
+            print_many(rt, seed, count)?;
+        }
+        _ => return Err(Misread::UnknownCommand.into()),
     }
+    Ok(())
 }
 
-// Answers line by line, and says whether each line was understood.
-fn answer_all(rt: &HostRuntime, text: &[u8]) -> anyhow::Result<bool> {
-    let mut understood = true;
-    let mut number = 0u64;
-    let mut rest = text;
-    while let Some((line, behind)) = next_line(rest) {
-        number = number.saturating_add(1);
-        if let Some(misread) = answer(rt, line)? {
-            let why = misread.why();
-            eprintln!(rt; "line {number}: {why}")?;
-            understood = false;
+// Answers line by line, and gives the status: whether each line was understood.
+fn answer_all(rt: &HostRuntime, text: &[u8]) -> anyhow::Result<ExitCode> {
+    let mut status = ExitCode::SUCCESS;
+    for (lines_before, line) in lines_in(text).enumerate() {
+        match answer(rt, line) {
+            Ok(()) => {}
+            Err(LineError::Misread(misread)) => {
+                let number = lines_before.saturating_add(1);
+                eprintln!(rt; "line {number}: {misread}")?;
+                status = ExitCode::FAILURE;
+            }
+            Err(LineError::Failed(error)) => return Err(error),
         }
-        rest = behind;
     }
-    Ok(understood)
+    Ok(status)
 }
 
 fn main(rt: HostRuntime) -> anyhow::Result<ExitCode> {
     let mut input = Vec::new(rt.alloc());
     rt.stdin().read_to_end(&mut input)?;
-    if answer_all(&rt, input.as_slice())? {
-        Ok(ExitCode::SUCCESS)
-    } else {
-        Ok(ExitCode::FAILURE)
-    }
+    answer_all(&rt, input.as_slice())
 }

@@ -1,38 +1,23 @@
 // A data message: its packets, or its fault.
 use lines::push_bytes;
-use mtdata2::{Fault, Layer, Packet, read};
-
-fn layer_name(layer: Layer) -> &'static str {
-    match layer {
-        Layer::Frame => "frame",
-        Layer::Message => "message",
-        Layer::Packet => "packet",
-    }
-}
+use mtdata2::{Fault, Packet, read};
 
 fn print_fault(rt: &HostRuntime, fault: Fault) -> anyhow::Result<()> {
     let number = fault.number();
-    let layer = layer_name(fault.layer());
+    let layer = fault.layer();
     let place = fault.place;
     println!(rt; "fault {number} {layer} {place}")?;
     Ok(())
 }
 
 fn print_packet(rt: &HostRuntime, packet: Packet<'_>) -> anyhow::Result<()> {
-    let (identifier, kind, content) = match packet {
-        Packet::Real {
-            identifier,
-            content,
-        } => (identifier, "real", content),
-        Packet::Whole {
-            identifier,
-            content,
-        } => (identifier, "whole", content),
-        Packet::Unknown {
-            identifier,
-            content,
-        } => (identifier, "unknown", content),
+    let kind = match packet {
+        Packet::Real { .. } => "real",
+        Packet::Whole { .. } => "whole",
+        Packet::Unknown { .. } => "unknown",
     };
+    let identifier = packet.identifier();
+    let content = packet.content();
     let size = content.len();
     let mut line = format!(in rt.alloc(); "packet {identifier:04X} {kind} {size}")?;
     push_bytes(&mut line, content)?;

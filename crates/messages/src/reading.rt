@@ -1,9 +1,9 @@
 // Readings in four precisions: one as text, many as a hash.
-use crate::Misread;
-use lines::{decimal_of, digits, next_word};
+use crate::fault::Misread;
+use lines::{decimal_of, digits, next_word, words_in};
 use mti::Precision;
 use numbers::put_real;
-use std::str;
+use std::alloc::AllocError;
 
 const PRECISIONS: [Precision; 4] = [
     Precision::Single,
@@ -18,57 +18,59 @@ const MOST: u64 = 1_000_000;
 // The whole number that decimal digits, with a minus sign in front or not, stand for.
 fn number_of(word: &[u8]) -> Option<i64> {
     match word {
-        [b'-', rest @ ..] => {
-            let n = i64::try_from(decimal_of(rest)?).ok()?;
-            n.checked_neg()
-        }
-        _ => i64::try_from(decimal_of(word)?).ok(),
+        [b'-', digits @ ..] => i64::try_from(decimal_of(digits)?).ok()?.checked_neg(),
+        digits => i64::try_from(decimal_of(digits)?).ok(),
     }
 }
 
 // The only word of a line.
 fn only_word(line: &[u8]) -> Option<&[u8]> {
-    let (word, rest) = next_word(line)?;
-    if next_word(rest).is_some() {
-        return None;
-    }
-    Some(word)
+    let mut words = words_in(line);
+    let word = words.next()?;
+    words.next().is_none().then_some(word)
+}
+
+// The number that is the only word of a line.
+pub fn read_number(line: &[u8]) -> Result<i64, Misread> {
+    let word = only_word(line).ok_or(Misread::NotANumber)?;
+    number_of(word).ok_or(Misread::NotANumber)
+}
+
+// The two numbers of a line: a seed, and how many readings.
+pub fn read_seed_and_count(line: &[u8]) -> Result<(u64, u64), Misread> {
+    let (first, rest) = next_word(line).ok_or(Misread::NotANumber)?;
+    let second = only_word(rest).ok_or(Misread::NotANumber)?;
+    let seed = decimal_of(first).ok_or(Misread::NotANumber)?;
+    let count = decimal_of(second)
+        .filter(|count| *count <= MOST)
+        .ok_or(Misread::NotANumber)?;
+    Ok((seed, count))
 }
 
 // Appends the digits of bytes, without spaces.
-fn push_digits(out: &mut String, bytes: &[u8]) -> anyhow::Result<()> {
+fn push_digits(out: &mut String, bytes: &[u8]) -> Result<(), AllocError> {
     for byte in bytes {
-        if let Ok(text) = str::from_utf8(&digits(*byte)) {
-            out.push_str(text)?;
+        for digit in digits(*byte) {
+            out.push(char::from(digit))?;
         }
     }
     Ok(())
 }
 
 // Prints a reading in the four precisions.
-pub fn print_reading(rt: &HostRuntime, line: &[u8]) -> anyhow::Result<Option<Misread>> {
-    let Some(word) = only_word(line) else {
-        return Ok(Some(Misread::NotANumber));
-    };
-    let Some(value) = number_of(word) else {
-        return Ok(Some(Misread::NotANumber));
-    };
+pub fn print_reading(rt: &HostRuntime, value: i64) -> anyhow::Result<()> {
     let mut text = String::from_str(rt.alloc(), "v")?;
     for precision in PRECISIONS {
         let mut bytes = [0u8; 8];
-        match put_real(&mut bytes, value, precision) {
-            Ok(size) => {
-                text.push_str(" ")?;
-                push_digits(&mut text, &bytes[0..size])?;
-            }
-            Err(_) => {
-                rt.println("out of range")?;
-                return Ok(None);
-            }
-        }
+        let Ok(size) = put_real(&mut bytes, value, precision) else {
+            rt.println("out of range")?;
+            return Ok(());
+        };
+        text.push_str(" ")?;
+        push_digits(&mut text, &bytes[0..size])?;
     }
     rt.println(text.as_str())?;
-    Ok(None)
+    Ok(())
 }
 
 // The hash with one byte more.
@@ -82,9 +84,9 @@ fn hashed_reading(hash: u64, value: i64) -> u64 {
     for precision in PRECISIONS {
         let mut bytes = [0u8; 8];
         if let Ok(size) = put_real(&mut bytes, value, precision) {
-            for byte in &bytes[0..size] {
-                hash = hashed(hash, *byte);
-            }
+            hash = bytes[0..size]
+                .iter()
+                .fold(hash, |hash, byte| hashed(hash, *byte));
         }
     }
     hash
@@ -109,20 +111,8 @@ fn hash_of(seed: u64, count: u64) -> u64 {
 }
 
 // Prints the hash over many readings.
-pub fn print_many(rt: &HostRuntime, line: &[u8]) -> anyhow::Result<Option<Misread>> {
-    let Some((first, rest)) = next_word(line) else {
-        return Ok(Some(Misread::NotANumber));
-    };
-    let Some(second) = only_word(rest) else {
-        return Ok(Some(Misread::NotANumber));
-    };
-    let (Some(seed), Some(count)) = (decimal_of(first), decimal_of(second)) else {
-        return Ok(Some(Misread::NotANumber));
-    };
-    if count > MOST {
-        return Ok(Some(Misread::NotANumber));
-    }
+pub fn print_many(rt: &HostRuntime, seed: u64, count: u64) -> anyhow::Result<()> {
     let hash = hash_of(seed, count);
     println!(rt; "n {hash:016X}")?;
-    Ok(None)
+    Ok(())
 }

@@ -1,0 +1,58 @@
+// Why a line is not answered.
+use lines::LineFault;
+use std::alloc::AllocFailed;
+use std::fmt;
+
+// Why a line is not understood.
+#[derive(Clone, Copy, Debug, PartialEq, Eq)]
+pub enum Misread {
+    UnknownCommand,
+    NotAByte,
+    NotAPacket,
+    NotANumber,
+}
+
+impl fmt::Display for Misread {
+    fn fmt<W: fmt::Write>(&self, f: &mut fmt::Formatter<W>) -> fmt::Result {
+        f.write_str(match self {
+            Misread::UnknownCommand => "unknown command",
+            Misread::NotAByte => "not a byte",
+            Misread::NotAPacket => "not a packet",
+            Misread::NotANumber => "not a number",
+        })
+    }
+}
+
+// The program goes on behind a line that it misread, and ends where it failed.
+#[derive(Drop)]
+pub enum LineError {
+    Misread(Misread),
+    Failed(anyhow::Error),
+}
+
+impl From<Misread> for LineError {
+    fn from(misread: Misread) -> LineError {
+        LineError::Misread(misread)
+    }
+}
+
+impl From<anyhow::Error> for LineError {
+    fn from(error: anyhow::Error) -> LineError {
+        LineError::Failed(error)
+    }
+}
+
+impl<T: Drop> From<AllocFailed<T>> for LineError {
+    fn from(error: AllocFailed<T>) -> LineError {
+        LineError::Failed(error.into())
+    }
+}
+
+impl From<LineFault> for LineError {
+    fn from(fault: LineFault) -> LineError {
+        match fault {
+            LineFault::NotAByte => LineError::Misread(Misread::NotAByte),
+            LineFault::Memory => LineError::Failed(fault.into()),
+        }
+    }
+}
