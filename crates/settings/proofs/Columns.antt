@@ -36,7 +36,7 @@ module _ (i k : ℕ) (vs : List ℕ) (l : length vs ≡ i) where
       ∙ ap (λ ws. places i (vs ++ (v ∷ [])) ++ places (1 + k) ws) (drop_at vs (v ∷ []) i l)
       ∙ ap (λ ys. places i (vs ++ (v ∷ [])) ++ ys) (places_split 1 k (v ∷ []))
       ∙ ap (λ ps. ps ++ (be 2 v ++ places k []))
-        (same_places i (vs ++ (v ∷ [])) vs (λ j b. get_or_append_left vs (v ∷ []) 0 j (omega arith)))
+      (same_places i (vs ++ (v ∷ [])) vs (λ j b. get_or_append_left vs (v ∷ []) 0 j (omega arith)))
 
   -- one more place is written
   pub place_more : (n v : ℕ) (out mid : List ℕ) → i + (1 + k) ≡ n → mid ≡ be 2 v → out ≡ places n vs

@@ -23,6 +23,7 @@ fn number_at(image: &[u8; IMAGE], at: usize, width: usize) -> u64
 }
 
 // So many entries: identifiers from byte 12 on, frequencies from byte 76 on.
+// Form: an index, since an entry has the same place in both columns, and the definition counts places too.
 fn read_entries(image: &[u8; IMAGE], count: usize) -> Entries
     requires { count ≤ 32 }
     ensures { listed result ≡ entries_at image.now count }
