@@ -69,8 +69,8 @@ fn fill_frame(out: &mut [u8], frame: Frame<'_>, len: DataLen)
     seal(out, frame.header, len);
 }
 
-#[tactic(auto, using(crate::proofs::Splits::reads_back))]
 // Writes a frame at a place of the tray, and says how many bytes it has.
+#[tactic(auto, using(crate::proofs::Splits::reads_back))]
 pub fn write_frame(tray: &mut [u8], at: usize, frame: Frame<'_>) -> Result<usize, WriteError>
     ensures value { result ≡ writing (length tray.old) at (length frame.entry.content.now) }
     ensures bytes { tray.new ≡ written result tray.old at (seen frame.entry) }
