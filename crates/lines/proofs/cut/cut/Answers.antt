@@ -1,10 +1,7 @@
 -- The text is cut where the search stops.
-use Rattle.std.proofs.Common.{take, drop, ap, ◌∙◌, arith}
-use Rattle.lines.proofs.Cutting.{reach, length_parts, take_before, drop_before}
+use Rattle.std.proofs.Common.{take, drop, ap, ◌∙◌}
+use Rattle.lines.proofs.Cutting.{reach, take_before, drop_before}
 use Rattle.lines.proofs.cut.cut.Goals as goal
-
-pub split_at-requires : goal.split_at-requires
-split_at-requires c = omega (arith, reach c.args.stop c.args.text.now c.place_of.result c.place_of.ensures, length_parts c.args.stop c.args.text.now)
 
 pub returns : goal.returns
 returns c =

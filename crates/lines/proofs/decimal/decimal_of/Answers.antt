@@ -3,7 +3,7 @@ use Rattle.std.proofs.Common.{sym, ◌∙◌, rules}
 use Rattle.std.specs.Str.{all_ascii_digits}
 use Rattle.std.proofs.lemmas.List.{nil_from_length, at_drop_all}
 use Rattle.lines.specs.Decimals.{value_after}
-use Rattle.lines.proofs.Numbers.{digit_more, digit_fails, all_read, decimal_reads_back}
+use Rattle.lines.proofs.Numbers.{digit_fails, all_read, decimal_reads_back}
 use Rattle.lines.proofs.decimal.decimal_of.Goals as goal
 
 pub returns-then-is_empty : goal.returns-then-is_empty
@@ -18,11 +18,6 @@ returns-in_err-n c =
       value = c.from_residual.ensures ∙ digit_fails c.args.word.now c.loop-c.c-index c.loop-c.n c.loop-c-test.true no c.loop-c.invariant.0 c.loop-c.invariant.1;
       back = decimal_reads_back;
     }
-
-pub loop-c-preserved : goal.loop-c-preserved
-loop-c-preserved c =
-    let m = digit_more c.args.word.now c.loop-c.c-index c.loop-c.n c.in_ok-n.n c.loop-c-test.true (sym c.with_digit.ensures ∙ c.in_ok-n.was) in
-    (m.0 ∙ c.loop-c.invariant.0, m.1 ∙ c.loop-c.invariant.1, m.2)
 
 pub returns : goal.returns
 returns c =

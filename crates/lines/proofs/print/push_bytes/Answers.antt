@@ -3,7 +3,7 @@ use Rattle.std.proofs.Common.{◌++◌, string_bytes, ap, ◌∙◌}
 use Rattle.std.proofs.lemmas.List.{take_all}
 use Rattle.std.proofs.lemmas.Result.{MatchResult-from_err}
 use Rattle.lines.specs.Bytes.{printed}
-use Rattle.lines.proofs.Printing.{printed_more, reads_back, command_reads_back}
+use Rattle.lines.proofs.Printing.{reads_back, command_reads_back}
 use Rattle.lines.proofs.print.push_bytes.Goals as goal
 
 pub returns-in_err-push_byte : goal.returns-in_err-push_byte
@@ -13,11 +13,6 @@ returns-in_err-push_byte c = record {
   back = reads_back;
   command = command_reads_back;
 }
-
-pub loop-byte-preserved : goal.loop-byte-preserved
-loop-byte-preserved c =
-    printed_more (string_bytes c.args.out.now) c.args.bytes.now (string_bytes c.loop-byte.out) _ c.loop-byte.byte-index
-    c.loop-byte-test.true c.loop-byte.invariant c.in_ok-push_byte.ensures
 
 pub returns : goal.returns
 returns c = record {

@@ -1,13 +1,7 @@
 -- The first line and the rest of a text.
 use Rattle.std.proofs.Common.{Some, ap, ◌∙◌, rules}
-use Rattle.std.proofs.lemmas.List.{nil_from_length}
 use Rattle.lines.proofs.LineParts.{feed_off, line_cases, lines_cases, line_is}
 use Rattle.lines.proofs.text.next_line.Goals as goal
-
-pub returns-then-is_empty : goal.returns-then-is_empty
-returns-then-is_empty c =
-    let e = nil_from_length c.args.text.now (search rules) in
-    record { value = rw e; parts = e; lines = rw e }
 
 pub returns : goal.returns
 returns c =
