@@ -78,9 +78,8 @@ pub fn write_frame(tray: &mut [u8], at: usize, frame: Frame<'_>) -> Result<usize
 {
     let len = DataLen::new(frame.content.len()).ok_or(WriteError::TooLong)?;
     let size = len.frame_size();
-    if at > tray.len() || tray.len() - at < size {
-        return Err(WriteError::NoRoom);
-    }
-    fill_frame(&mut tray[at..at + size], frame, len);
+    let (_, behind) = tray.split_at_mut_checked(at).ok_or(WriteError::NoRoom)?;
+    let (out, _) = behind.split_at_mut_checked(size).ok_or(WriteError::NoRoom)?;
+    fill_frame(out, frame, len);
     Ok(size)
 }
