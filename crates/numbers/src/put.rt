@@ -24,10 +24,7 @@ pub fn put_real(out: &mut [u8], value: i64, precision: Precision) -> Result<usiz
 {
     let reading = Reading::new(value).ok_or(NumberError::OutOfRange)?;
     let width = precision.width();
-    // Form: a test and a range, since after get_mut a proof knows nothing of what the slice then holds.
-    if out.len() < width {
-        return Err(NumberError::NoRoom);
-    }
-    put_number(&mut out[..width], reading.code(precision));
+    let (front, _) = out.split_at_mut_checked(width).ok_or(NumberError::NoRoom)?;
+    put_number(front, reading.code(precision));
     Ok(width)
 }

@@ -21,6 +21,7 @@ impl Reading {
     pub(crate) fn new(value: i64) -> Option<Reading>
         ensures { option_map (λ r. r.value) result ≡ cond (in_range value) (Some value) None }
     {
+        // Form: an `if`, since a closure for `then` would state the test again, as a `requires` for the ghost field.
         if (LOWEST..=HIGHEST).contains(&value) {
             Some(Reading { value })
         } else {

@@ -10,12 +10,10 @@ pub(crate) fn hand_out(held: Option<&[u8; IMAGE]>, buf: &mut [u8]) -> Result<Loa
     ensures answer { result ≡ load_answer (length buf.old) (option_copied held.entry) }
     ensures buffer { buf.new ≡ buffer_after buf.old (option_copied held.entry) }
 {
-    if buf.len() != IMAGE {
-        return Err(StoreError::WrongLength);
-    }
+    let buf = buf.as_mut_array().ok_or(StoreError::WrongLength)?;
     let Some(image) = held else {
         return Ok(Loaded::None);
     };
-    buf.copy_from_slice(image);
+    *buf = *image;
     Ok(Loaded::Held)
 }

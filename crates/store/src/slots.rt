@@ -47,7 +47,7 @@ pub(crate) fn held_image(bytes: &[u8]) -> Option<&[u8; IMAGE]>
 }
 
 // Marks slot `j` as not used, if there is such a slot.
-// Form: places are computed, since the library does not say what the memory ends as where its slots are lent.
+// Form: places are computed, here and in `fill`, since the library does not say what the memory ends as where its slots are lent.
 fn fence(bytes: &mut [u8], j: usize)
     ensures { bytes.new ≡ fenced bytes.old j }
 {

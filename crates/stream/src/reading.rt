@@ -41,6 +41,7 @@ pub fn next_piece(bytes: &[u8]) -> Option<(Piece<'_>, &[u8])>
 }
 
 // The pieces of a recording, in order.
+// Form: one iterator for each item, here, in mtdata2 and in lines: a shared one would need a trait for cuts and their laws.
 #[derive(Clone, Copy)]
 pub struct Pieces<'a> {
     rest: &'a [u8],

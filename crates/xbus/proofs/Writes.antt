@@ -23,10 +23,12 @@ four_is (x ∷ y ∷ []) a b c d h = absurd (omega arith)
 four_is (x ∷ y ∷ z ∷ []) a b c d h = absurd (omega arith)
 four_is (x ∷ y ∷ z ∷ w ∷ xs) a b c d h = refl
 
-pub header_short : (xs : List ℕ) (a i n : ℕ) → 4 ≤ length xs → n < 255 → take 4 (four xs 0xFA a i n) ≡ 0xFA ∷ header_of a i n
-header_short xs a i n h l = ap (take 4) (four_is xs 0xFA a i n h) ∙ ap (λ z. 0xFA ∷ a ∷ i ∷ z) (sym (length_short n l))
+pub header_short : (xs : List ℕ) (a i n : ℕ) → 4 ≤ length xs → n < 255 → take (content_start n) (four xs 0xFA a i n) ≡ 0xFA ∷ header_of a i n
+header_short xs a i n h l =
+    ap (λ k. take k (four xs 0xFA a i n)) (cond-true (ltb n 255) 4 6 (lt-ltb n 255 l))
+    ∙ ap (take 4) (four_is xs 0xFA a i n h) ∙ ap (λ z. 0xFA ∷ a ∷ i ∷ z) (sym (length_short n l))
 
-pub header_long : (xs mid : List ℕ) (a i n : ℕ) → 6 ≤ length xs → 255 ≤ n → mid ≡ be (length (take 2 (drop 4 (four xs 0xFA a i 0xFF)))) n → take 6 (put_mid 4 2 (four xs 0xFA a i 0xFF) mid) ≡ 0xFA ∷ header_of a i n
+pub header_long : (xs mid : List ℕ) (a i n : ℕ) → 6 ≤ length xs → 255 ≤ n → mid ≡ be (length (take 2 (drop 4 (four xs 0xFA a i 0xFF)))) n → take (content_start n) (put_mid 4 2 (four xs 0xFA a i 0xFF) mid) ≡ 0xFA ∷ header_of a i n
 header_long xs mid a i n h l e =
     let ys : List ℕ = four xs 0xFA a i 0xFF in
     let is : ys ≡ 0xFA ∷ a ∷ i ∷ 0xFF ∷ drop 4 xs = four_is xs 0xFA a i 0xFF (omega arith) in
@@ -34,7 +36,8 @@ header_long xs mid a i n h l e =
     ap (λ l. length (take 2 (drop 4 l))) is ∙ length-take-le 2 (drop 4 xs) (omega (arith, length-drop 4 xs)) in
     let m : mid ≡ be 2 n = e ∙ ap (λ k. be k n) two in
     let s : length_bytes n ≡ 0xFF ∷ be 2 n = cond-false (ltb n 255) _ _ (le-ltb n 255 l) in
-    take-put_mid 4 2 ys mid 6 (omega (arith, ap length m)) (omega (arith, ap length is))
+    ap (λ k. take k (put_mid 4 2 ys mid)) (cond-false (ltb n 255) 4 6 (le-ltb n 255 l))
+    ∙ take-put_mid 4 2 ys mid 6 (omega (arith, ap length m)) (omega (arith, ap length is))
     ∙ ap (λ l. take 4 l ++ mid) is ∙ ap (λ z. 0xFA ∷ a ∷ i ∷ 0xFF ∷ z) m ∙ ap (λ z. 0xFA ∷ a ∷ i ∷ z) (sym s)
 
 -- ---- the checksum behind header and data
@@ -62,23 +65,24 @@ module _ (xs out hd : List ℕ) (start len : ℕ)
         ∙ take_more_set out end x (omega arith)
         ∙ (λ i. front i ++ (c i ∷ []))
 
+-- a frame is a header, the data and a checksum
+frame_room : (n : ℕ) → content_start n + n + 1 ≡ frame_size n
+frame_room n =
+    ⊎_elim
+    (λ l. let t = lt-ltb n 255 l in omega (arith, cond-true {A = ℕ} (ltb n 255) 4 6 t, cond-true {A = ℕ} (ltb n 255) (n + 5) (n + 7) t))
+    (λ l. let t = le-ltb n 255 l in omega (arith, cond-false {A = ℕ} (ltb n 255) 4 6 t, cond-false {A = ℕ} (ltb n 255) (n + 5) (n + 7) t))
+    (cases_lt n 255)
+
 -- the data of a frame have their length
 pub content_long : (xs : List ℕ) (len : ℕ) → length xs ≡ frame_size len → length (take len (drop (content_start len) xs)) ≡ len
 content_long xs len e =
-    length-take-le len (drop (content_start len) xs)
-    (⊎_elim
-    (λ l.
-    let t = lt-ltb len 255 l in
-    omega (arith, length-drop (content_start len) xs, cond-true {A = ℕ} (ltb len 255) 4 6 t, cond-true {A = ℕ} (ltb len 255) (len + 5) (len + 7) t))
-    (λ l.
-    let t = le-ltb len 255 l in
-    omega (arith, length-drop (content_start len) xs, cond-false {A = ℕ} (ltb len 255) 4 6 t, cond-false {A = ℕ} (ltb len 255) (len + 5) (len + 7) t))
-    (cases_lt len 255))
+    length-take-le len (drop (content_start len) xs) (omega (arith, length-drop (content_start len) xs, frame_room len))
 
 -- the header was written for exactly these data
-pub sealed_frame : (xs out : List ℕ) (a i start len s : ℕ) → take start out ≡ 0xFA ∷ header_of a i len → drop start out ≡ drop start xs → start ≡ content_start len → start + len + 1 ≡ frame_size len → length xs ≡ frame_size len → length out ≡ length xs → s ≡ total (take (start + len - 1) (drop 1 out)) % 256 → set out (start + len) ((0 + (256 - s)) % 256) ≡ encoded a i (take len (drop (content_start len) xs))
-sealed_frame xs out a i start len s header rest is room e l t =
-    sealed xs out (header_of a i len) start len header rest (omega (arith, room)) s t
+pub sealed_frame : (xs out : List ℕ) (a i start len s : ℕ) → take (content_start len) out ≡ 0xFA ∷ header_of a i len → drop (content_start len) out ≡ drop (content_start len) xs → start ≡ content_start len → length xs ≡ frame_size len → length out ≡ length xs → s ≡ total (take (start + len - 1) (drop 1 out)) % 256 → set out (start + len) ((0 + (256 - s)) % 256) ≡ encoded a i (take len (drop (content_start len) xs))
+sealed_frame xs out a i start len s header rest is e l t =
+    sealed xs out (header_of a i len) start len (ap (λ k. take k out) is ∙ header)
+    (ap (λ k. drop k out) is ∙ rest ∙ ap (λ k. drop k xs) (sym is)) (omega (arith, frame_room len)) s t
     ∙ ap (λ k. enclosed (header_of a i len ++ take len (drop k xs))) is
     ∙ ap (λ k. enclosed (header_of a i k ++ take len (drop (content_start len) xs))) (sym (content_long xs len e))
 

@@ -18,7 +18,7 @@ impl DataLen {
     pub fn new(len: usize) -> Option<DataLen>
         ensures { option_map count result ≡ allowed len }
     {
-        // Form: an `if`, since the closure that `then` takes would not know that the test held.
+        // Form: an `if`, since a closure for `then` would state the test again, as a `requires` for the ghost field.
         if len <= MOST_DATA {
             Some(DataLen { len })
         } else {

@@ -24,6 +24,7 @@ fn split_frame(frame: &[u8]) -> Frame<'_>
     requires { (5 ≤ length frame.now) × (around frame.now ≤ length frame.now) }
     ensures { seen result ≡ parts_of frame.now }
 {
+    // Form: by the length byte, since `DataLen::of_frame` has a None, which a whole frame never is.
     let start = if frame[3] == EXTENDED { 6 } else { 4 };
     Frame {
         header: Header {

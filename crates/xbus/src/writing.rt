@@ -1,5 +1,5 @@
 // Writing a frame at a place of a tray.
-ghost use Rattle.std.specs.Prelude.{◌≡◌, ◌+◌, ◌≤◌, ◌∷◌, length, take, drop};
+ghost use Rattle.std.specs.Prelude.{◌≡◌, ◌≤◌, ◌∷◌, length, take, drop};
 ghost use Rattle.xbus.specs.Frames.{header_of, encoded};
 ghost use Rattle.xbus.specs.Parts.{seen, frame_of};
 ghost use Rattle.xbus.specs.Writing.{frame_size, content_start, content_size, sealed_by, writing, written, ReadsBack};
@@ -17,24 +17,20 @@ pub enum WriteError {
     NoRoom,
 }
 
-// Writes FA, the address, the identifier and the length, and says how many bytes that are.
-fn write_header(out: &mut [u8], header: Header, len: DataLen) -> usize
+// Writes FA, the address, the identifier and the length in front of the place of the data.
+fn write_header(out: &mut [u8], header: Header, len: DataLen)
     requires { content_start len.len ≤ length out.old }
-    ensures bytes { take result out.new ≡ 0xFA ∷ header_of header.address header.identifier len.len }
-    ensures rest { drop result out.new ≡ drop result out.old }
-    ensures start { result ≡ content_start len.len }
-    ensures room { result + len.len + 1 ≡ frame_size len.len }
+    ensures bytes { take (content_start len.len) out.new ≡ 0xFA ∷ header_of header.address header.identifier len.len }
+    ensures rest { drop (content_start len.len) out.new ≡ drop (content_start len.len) out.old }
 {
     out[0] = START;
     out[1] = header.address;
     out[2] = header.identifier;
     if len.len < 255 {
         out[3] = len.len as u8;
-        4
     } else {
         out[3] = EXTENDED;
         put_number(&mut out[4..6], len.len as u64);
-        6
     }
 }
 
@@ -43,8 +39,8 @@ fn seal(frame: &mut [u8], header: Header, len: DataLen)
     requires { length frame.old ≡ frame_size len.len }
     ensures { frame.new ≡ encoded header.address header.identifier (take len.len (drop (content_start len.len) frame.old)) }
 {
-    let start = write_header(frame, header, len);
-    let end = start + len.len;
+    write_header(frame, header, len);
+    let end = len.content_start() + len.len;
     frame[end] = 0u8.wrapping_sub(sum(&frame[1..end]));
 }
 
@@ -78,9 +74,8 @@ pub fn write_frame(tray: &mut [u8], at: usize, frame: Frame<'_>) -> Result<usize
 {
     let len = DataLen::new(frame.content.len()).ok_or(WriteError::TooLong)?;
     let size = len.frame_size();
-    if at > tray.len() || tray.len() - at < size {
-        return Err(WriteError::NoRoom);
-    }
-    fill_frame(&mut tray[at..at + size], frame, len);
+    let (_, behind) = tray.split_at_mut_checked(at).ok_or(WriteError::NoRoom)?;
+    let (out, _) = behind.split_at_mut_checked(size).ok_or(WriteError::NoRoom)?;
+    fill_frame(out, frame, len);
     Ok(size)
 }
