@@ -1,6 +1,6 @@
 // The channels of the products.
 ghost use Rattle.std.specs.Prelude.{◌≡◌};
-ghost use Rattle.mti.specs.Channels.{channel_of, first_of, offered_by, taken_by};
+ghost use Rattle.mti.specs.Channels.{channel_of, offered_by, taken_by};
 ghost use Rattle.mti.specs.Exactly.{Exactly};
 ghost use Rattle.mti.specs.Table.{Bearer, Orderly};
 
@@ -49,10 +49,7 @@ impl Channel {
     pub fn takes(self, precision: Precision) -> bool
         ensures { result ≡ taken_by self.kind precision }
     {
-        match self.kind {
-            Real(_) => true,
-            Whole(_) => precision.digit() == 0,
-        }
+        matches!(self.kind, Real(_)) || precision == Precision::Single
     }
 }
 
@@ -80,20 +77,14 @@ const CHANNELS: [Channel; 19] = [
     Channel { identifier: 0xE020, kind: Whole(4), max_hz: 2000, availability: All },
 ];
 
-// The first of the rows that bears the identifier.
-fn first(rows: &[Channel], identifier: u16) -> Option<Channel>
-    ensures { result ≡ first_of identifier rows.now }
-{
-    rows.iter()
-        .find(|row| row.identifier == identifier)
-        .copied()
-}
-
 // The channel of the table that bears the identifier.
 pub fn find_channel(identifier: u16) -> Option<Channel>
     ensures is { result ≡ channel_of identifier }
     ensures exact { Exactly (Bearer identifier) result }
     ensures table { Orderly }
 {
-    first(&CHANNELS, identifier)
+    CHANNELS
+        .iter()
+        .find(|row| row.identifier == identifier)
+        .copied()
 }

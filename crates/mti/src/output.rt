@@ -2,10 +2,17 @@
 ghost use Rattle.std.specs.Prelude.{◌≡◌, ℕ};
 ghost use Rattle.std.specs.Option.{option_map};
 ghost use Rattle.mti.specs.Exactly.{Exactly};
-ghost use Rattle.mti.specs.Identifiers.{known_of, identifier_of, size_of, data_size_of, Known, KnownSize, Bounded};
+ghost use Rattle.mti.specs.Identifiers.{plain, known_of, identifier_of, size_of, data_size_of, Known, KnownSize, Bounded};
 
 use crate::channel::{Channel, Kind, find_channel};
 use crate::precision::Precision;
+
+// The identifier of the channel: the identifier with 0 for its format digit.
+pub fn channel_identifier(identifier: u16) -> u16
+    ensures { result ≡ plain identifier }
+{
+    identifier - identifier % 16
+}
 
 // A channel in a precision.
 #[derive(Clone, Copy, PartialEq, Debug)]
@@ -20,8 +27,7 @@ impl Output {
         ensures is { result ≡ identifier_of self.now }
         ensures back { (i : ℕ) → Known i self.now → result ≡ i }
     {
-        let identifier = self.channel.identifier;
-        identifier - identifier % 16 + self.precision.digit()
+        channel_identifier(self.channel.identifier) + self.precision.digit()
     }
 
     // The bytes of the data.
@@ -41,9 +47,8 @@ pub fn known(identifier: u16) -> Option<Output>
     ensures exact { Exactly (Known identifier) result }
     ensures bounded { Bounded (option_map size_of result) }
 {
-    let digit = identifier % 16;
-    let channel = find_channel(identifier - digit)?;
-    let precision = Precision::try_from(digit).ok()?;
+    let channel = find_channel(channel_identifier(identifier))?;
+    let precision = Precision::try_from(identifier % 16).ok()?;
     let output = Output { channel, precision };
     channel.takes(precision).then_some(output)
 }

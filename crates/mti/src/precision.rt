@@ -25,8 +25,7 @@ impl Precision {
         ensures { result ≡ width_of self }
     {
         match self {
-            Precision::Single => 4,
-            Precision::Fixed32 => 4,
+            Precision::Single | Precision::Fixed32 => 4,
             Precision::Fixed48 => 6,
             Precision::Double => 8,
         }

@@ -76,12 +76,3 @@ asked_few c k (Some kind) e =
     let a = asked_sound c k kind (sym e) in
     let m = (orderly_table.regular a.channel a.bears.0).moderate in
     few_in_data kind k (subst Moderate a.kind_is m) a.in_data
-
--- the table has one channel under an identifier, and so one kind
-pub asked_kind : (c k : ℕ) (kind : Kind) (ch : Channel) → asked_of c k ≡ Some kind → Bearer c ch → ch.kind ≡ kind
-asked_kind c k kind ch e b =
-    let a = asked_sound c k kind e in
-    let one = channel_of_bearer c a.channel a.bears in
-    let other = channel_of_bearer c ch b in
-    let same : ch ≡ a.channel = cc in
-    ap (λ (x : Channel). x.kind) same ∙ a.kind_is

@@ -8,25 +8,24 @@ use Rattle.std.proofs.lemmas.Int.{ints}
 use Rattle.std.proofs.lemmas.Bool.{cases_Bool, and_parts, and_from, eqb-true, eq-eqb, leb-true, le-leb, both_ways}
 use Rattle.mti.specs.declared.channel.Kind.{Kind}
 use Rattle.mti.specs.declared.channel.Kind.TheVariants.{Real, Whole}
-use Rattle.mti.proofs.Exact.{none_not_some}
 use Rattle.sensor.specs.declared.records.Row.{Row}
 use Rattle.sensor.specs.Questions.{asked_of, Asked}
-use Rattle.sensor.specs.Ranges.{clamped_of, Within, Clamped, Ranged}
+use Rattle.sensor.specs.Ranges.{clamped_of, Clamped}
 use Rattle.sensor.specs.Records.{counts_at, chosen_of, last_of, number_at, number_of, replayed_at, recorded_of, Counts, NoneCounts, Last, LastReading, Replayed}
 use Rattle.sensor.proofs.Answered.{asked_sound, asked_complete}
-use Rattle.sensor.proofs.Kept.{kept_ranged}
+use Rattle.sensor.specs.Kept.{clamped_within}
 
 -- ---- the clamp
 
 pub clamped_in_words : (kind : Kind) (v : ℤ) → Clamped kind v (clamped_of kind v)
 clamped_in_words (Real n) v = record {
-  within = (grind (arith, ints), grind (arith, ints));
+  within = clamped_within (Real n) v;
   same = λ h. grind (arith, ints);
   below = λ h. grind (arith, ints);
   above = λ h. grind (arith, ints);
 }
 clamped_in_words (Whole w) v = record {
-  within = (grind (arith, ints), grind (arith, ints));
+  within = clamped_within (Whole w) v;
   same = λ h. grind (arith, ints);
   below = λ h. grind (arith, ints);
   above = λ h. grind (arith, ints);
@@ -132,7 +131,7 @@ asked_or_none : (c k : ℕ) (o : Option Kind) → asked_of c k ≡ o → ((kind 
 asked_or_none c k None e h = refl
 asked_or_none c k (Some kind) e h = absurd (h kind (asked_sound c k kind e))
 
-pub recorded_in_words : (rows : List Row) (c k t : ℕ) → Replayed rows c k t (recorded_of rows c k t)
+recorded_in_words : (rows : List Row) (c k t : ℕ) → Replayed rows c k t (recorded_of rows c k t)
 unfolding recorded_of
 recorded_in_words rows c k t =
     let read : Option Kind → Option ℤ = λ o. option_flatten (option_map (replayed_at rows c k t) o) in
@@ -142,15 +141,6 @@ recorded_in_words rows c k t =
           subst (LastReading rows c k t kind) (sym (ap read (asked_complete c k kind a))) (replayed_in_words rows c k t kind);
     }
 
-replayed_within : (kind : Kind) (k : ℕ) (o : Option Row) (v : ℤ)
-    → option_map (number_of kind k) o ≡ Some v → Within kind v
-replayed_within kind k None v e = absurd (none_not_some v e)
-replayed_within kind k (Some r) v e =
-    let same : number_of kind k r ≡ v = cc in
-    subst (Within kind) same (clamped_in_words kind (number_at k r)).within
-
-pub recorded_ranged : (rows : List Row) → Ranged (recorded_of rows)
-unfolding recorded_of
-recorded_ranged rows =
-    kept_ranged (recorded_of rows) (λ c k t o. option_flatten (option_map (replayed_at rows c k t) o)) (λ c k t. refl)
-    (λ c k t h. (refl, λ kind v e. replayed_within kind k (last_of c t rows) v e))
+-- the same, at an answer
+pub answer_in_words : {rows : List Row} {c k t : ℕ} {r : Option ℤ} → r ≡ recorded_of rows c k t → Replayed rows c k t r
+answer_in_words {rows} {c} {k} {t} e = subst (Replayed rows c k t) (sym e) (recorded_in_words rows c k t)

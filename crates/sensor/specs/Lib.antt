@@ -2,3 +2,4 @@ pub mod Questions
 pub mod Ranges
 pub mod Ramps
 pub mod Records
+pub mod Kept

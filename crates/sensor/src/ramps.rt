@@ -1,6 +1,7 @@
 // A synthetic sensor.
 ghost use Rattle.std.specs.Prelude.{◌≡◌, ◌<◌};
 ghost use Rattle.sensor.specs.Ramps.{ramp_at, ramp_of};
+ghost use Rattle.sensor.specs.Kept.{ramp_ranged};
 
 use crate::questions::asked;
 use crate::sensors::{Question, Sensor};
@@ -26,6 +27,8 @@ fn climb(kind: Kind, question: Question) -> i64
 
 impl Sensor for Ramp {
     ghost meaning = { λ _. ramp_of };
+
+    ghost ranged = { λ _. ramp_ranged };
 
     fn reading(&mut self, question: Question) -> Option<i64> {
         let kind = asked(question.channel, question.index)?;

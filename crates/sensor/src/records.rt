@@ -1,12 +1,11 @@
 // A sensor over recorded rows.
-ghost use Rattle.std.specs.Prelude.{◌≡◌, ◌<◌};
-ghost use Rattle.sensor.specs.Ranges.{Ranged};
-ghost use Rattle.sensor.specs.Records.{counts_at, last_of, number_of, recorded_of, Replayed};
+ghost use Rattle.std.specs.Prelude.{◌≡◌};
+ghost use Rattle.sensor.specs.Kept.{recorded_ranged};
+ghost use Rattle.sensor.specs.Records.{counts_at, last_of, recorded_of, Replayed};
 
 use crate::questions::asked;
 use crate::ranges::clamped;
 use crate::sensors::{Question, Sensor};
-use mti::Kind;
 
 // The numbers of a channel at a tick, one for each index of its data.
 #[derive(Clone, Copy)]
@@ -23,14 +22,6 @@ impl Row {
     {
         self.channel == question.channel && self.tick <= question.tick
     }
-
-    // The number at the index, clamped to the range of its kind.
-    fn number(&self, index: usize, kind: Kind) -> i64
-        requires { index < 9 }
-        ensures { result ≡ number_of kind index self.now }
-    {
-        clamped(kind, self.numbers[index])
-    }
 }
 
 // The last row that counts, in the order of the list.
@@ -40,16 +31,7 @@ fn last_row(rows: &[Row], question: Question) -> Option<Row>
     rows.iter().rev().find(|row| row.counts(question)).copied()
 }
 
-// The number of the last row that counts, where a sensor is asked for one.
-fn replay(rows: &[Row], question: Question) -> Option<i64>
-    ensures { result ≡ recorded_of rows.now question.channel question.index question.tick }
-{
-    let kind = asked(question.channel, question.index)?;
-    let row = last_row(rows, question)?;
-    Some(row.number(question.index, kind))
-}
-
-// Rows in the order in which they were recorded: the last that counts gives the reading.
+// Rows in the order in which they were recorded: the last that counts gives the reading, clamped to its range.
 #[derive(Clone, Copy)]
 pub struct Recorded<'a> {
     pub rows: &'a [Row],
@@ -58,12 +40,15 @@ pub struct Recorded<'a> {
 impl Sensor for Recorded<'_> {
     ghost meaning = { λ s. recorded_of s.rows.now };
 
+    ghost ranged = { λ s. recorded_ranged s.rows.now };
+
     fn reading(&mut self, question: Question) -> Option<i64>
         ensures answer { result ≡ recorded_of self.old.rows.now question.channel question.index question.tick }
         ensures stays { recorded_of self.new.rows.now ≡ recorded_of self.old.rows.now }
-        ensures range { Ranged (recorded_of self.old.rows.now) }
         ensures last { Replayed self.old.rows.now question.channel question.index question.tick result }
     {
-        replay(self.rows, question)
+        let kind = asked(question.channel, question.index)?;
+        let row = last_row(self.rows, question)?;
+        Some(clamped(kind, row.numbers[question.index]))
     }
 }

@@ -16,9 +16,10 @@ pub trait Sensor {
 
     fn reading(&mut self, question: Question) -> Option<i64>
         ensures answer { result ≡ meaning self.old question.channel question.index question.tick }
-        ensures stays { meaning self.new ≡ meaning self.old }
-        // Form: a clause and no law, since the proof of a law would stand in specs/, where no tactic stands.
-        ensures range { Ranged (meaning self.old) };
+        ensures stays { meaning self.new ≡ meaning self.old };
+
+    // each number is in its channel's range
+    ghost ranged: { (s : Self) → Ranged (meaning s) };
 }
 
 // The readings of one question and then of another, each as if it had been asked alone.

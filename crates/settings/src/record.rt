@@ -2,6 +2,8 @@
 ghost use Rattle.std.specs.Prelude.{◌≡◌, ◌≤◌, length};
 ghost use Rattle.mti.specs.Identifiers.{plain};
 
+use mti::channel_identifier;
+
 // The most entries that a list of outputs has.
 pub const MOST_ENTRIES: usize = 32;
 
@@ -17,7 +19,7 @@ impl Entry {
     pub fn channel(self) -> u16
         ensures { result ≡ plain self.identifier }
     {
-        self.identifier - self.identifier % 16
+        channel_identifier(self.identifier)
     }
 }
 

@@ -1,8 +1,16 @@
--- The table's theorems, at what the search of the table answers.
-use Rattle.mti.specs.Channels.{channel_of}
+-- What is found is the first row that bears the identifier, and with it the table's theorems.
+use Rattle.std.proofs.Common.{eqb, ◌∙◌, rules, tests}
+use Rattle.std.proofs.lemmas.Iterator.{YieldsList-from_slice}
+use Rattle.std.proofs.lemmas.Iterator.Search.{find_from_yields_List}
+use Rattle.mti.specs.Channels.{channels, channel_of}
 use Rattle.mti.proofs.Rows.{channel_exactly, orderly_table}
 use Rattle.mti.proofs.channel.find_channel.Goals as goal
 
 pub returns : goal.returns
 unfolding channel_of
-returns c = record { is = c.first.ensures; exact = channel_exactly _ _ c.first.ensures; table = orderly_table }
+returns c =
+    let is =
+    c.copied.ensures
+    ∙ find_from_yields_List (λ r. eqb r.identifier c.args.identifier) _ _ c.find.result c.find.ensures.ran
+    (YieldsList-from_slice channels cc) (λ x b q k. search (rules, tests)) in
+    record { is = is; exact = channel_exactly _ _ is; table = orderly_table }

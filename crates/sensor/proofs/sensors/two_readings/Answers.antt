@@ -1,16 +1,16 @@
 -- Each answer is what the sensor meant before the first question, and in range.
-use Rattle.std.proofs.Common.{◌^◌, ◌<◌, rules}
-use Rattle.sensor.proofs.Kept.{reading_in_range}
+use Rattle.std.proofs.Common.{◌^◌, ◌<◌, sym, subst, rules}
+use Rattle.sensor.specs.Ranges.{InRange}
 use Rattle.sensor.proofs.sensors.two_readings.Goals as goal
 
 pub returns-clause-range : goal.returns-clause-range
 returns-clause-range g c =
     let one = c.args.first in
     let other = c.args.second in
-    let a = c.reading-one.ensures in
-    let b = c.reading-other.ensures in
+    let ranged = g.met.S.Sensor.ranged in
     let s : one.tick < 2 ^ 32 = search rules in
     let t : other.tick < 2 ^ 32 = search rules in (
-      reading_in_range _ a.range one.channel one.index one.tick _ s a.answer,
-      reading_in_range _ b.range other.channel other.index other.tick _ t b.answer,
+      subst (InRange one.channel one.index) (sym c.reading-one.ensures.answer) ((ranged _).in_range one.channel one.index one.tick s),
+      subst (InRange other.channel other.index) (sym c.reading-other.ensures.answer)
+          ((ranged _).in_range other.channel other.index other.tick t),
     )

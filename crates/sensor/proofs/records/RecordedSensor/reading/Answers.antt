@@ -1,14 +1,29 @@
--- The answer said in words, and its range.
-use Rattle.std.proofs.Common.{sym, subst}
-use Rattle.sensor.specs.Records.{Replayed}
-use Rattle.sensor.proofs.Lasts.{recorded_in_words, recorded_ranged}
+-- The reading, from what was asked and the row that was found, and said in words.
+use Rattle.std.proofs.Common.{◌≡◌, ℤ, Some, sym, ap, ◌∙◌, w64, to_z, of_z, rules}
+use Rattle.sensor.specs.Records.{number_of}
+use Rattle.sensor.proofs.Lasts.{recorded_is, recorded_not_asked, answer_in_words}
 use Rattle.sensor.proofs.records.RecordedSensor.reading.Goals as goal
 
-pub returns-clause-last : goal.returns-clause-last
-returns-clause-last c =
-    let rows = c.args.self.now.rows.now in
-    let q = c.args.question in
-    subst (Replayed rows q.channel q.index q.tick) (sym c.replay.ensures) (recorded_in_words rows q.channel q.index q.tick)
+pub returns-in_err-kind-clause-answer : goal.returns-in_err-kind-clause-answer
+returns-in_err-kind-clause-answer c =
+    c.from_residual.ensures ∙ recorded_not_asked _ _ _ _ (sym c.in_err-kind.was ∙ c.asked.ensures.is)
 
-pub returns-clause-range : goal.returns-clause-range
-returns-clause-range c = recorded_ranged c.args.self.now.rows.now
+pub returns-in_err-kind-clause-last : goal.returns-in_err-kind-clause-last
+returns-in_err-kind-clause-last c = answer_in_words (returns-in_err-kind-clause-answer c)
+
+pub returns-in_err-row-clause-answer : goal.returns-in_err-row-clause-answer
+returns-in_err-row-clause-answer c =
+    c.from_residual-in_err-row.ensures
+    ∙ recorded_is _ _ _ _ _ _ (sym c.in_ok-kind.was ∙ c.asked.ensures.is) (sym c.in_err-row.was ∙ c.last_row.ensures)
+
+pub returns-in_err-row-clause-last : goal.returns-in_err-row-clause-last
+returns-in_err-row-clause-last c = answer_in_words (returns-in_err-row-clause-answer c)
+
+pub returns-clause-answer : goal.returns-clause-answer
+returns-clause-answer c =
+    let same : to_z w64 (of_z w64 c.clamped.result) ≡ number_of c.in_ok-kind.kind c.args.question.index c.in_ok-row.row = search rules in
+    ap (λ (x : ℤ). Some x) same
+    ∙ recorded_is _ _ _ _ _ _ (sym c.in_ok-kind.was ∙ c.asked.ensures.is) (sym c.in_ok-row.was ∙ c.last_row.ensures)
+
+pub returns-clause-last : goal.returns-clause-last
+returns-clause-last c = answer_in_words (returns-clause-answer c)
