@@ -16,7 +16,7 @@ use Rattle.mtdata2.proofs.Frames.{frame_parts}
 use Rattle.mtdata2.proofs.Rounds.{fits_size}
 use Rattle.draft.specs.declared.refusal.Refusal.{Refusal}
 use Rattle.draft.specs.declared.refusal.Refusal.TheVariants.{NoRoom}
-use Rattle.draft.specs.Composed.{asked, grown, judged, content_in, laid}
+use Rattle.draft.specs.Composed.{asked, grown, fitted, judged, content_in, laid}
 use Rattle.draft.proofs.Extends.{start_grows}
 use Rattle.draft.proofs.Holds.{content_part}
 
@@ -32,31 +32,34 @@ pub record Accepted (n identifier place size start have room g : ℕ) : Type 0 w
 err_not_ok : (e : Refusal) (g : ℕ) → ◌≡◌ {A = Result ℕ Refusal} (Ok g) (Err e) → ⊥
 err_not_ok e g p = let z : ◌≡◌ {A = ℕ} 0 1 = cc in omega arith
 
-judged_by : (s t u v : Bool) (a b c d : Refusal) (g k : ℕ) → ◌≡◌ {A = Result ℕ Refusal} (Ok g) (cond s (Err a) (cond t (Err b) (cond u (Err c) (cond v (Err d) (Ok k))))) → (s ≡ false) × (t ≡ false) × (u ≡ false) × (v ≡ false) × (g ≡ k)
-judged_by true t u v a b c d g k e = absurd (err_not_ok a g e)
-judged_by false true u v a b c d g k e = absurd (err_not_ok b g e)
-judged_by false false true v a b c d g k e = absurd (err_not_ok c g e)
-judged_by false false false true a b c d g k e = absurd (err_not_ok d g e)
-judged_by false false false false a b c d g k e = (refl, refl, refl, refl, cc)
+fitted_by : (s t u : Bool) (a b c : Refusal) (g k : ℕ) → ◌≡◌ {A = Result ℕ Refusal} (Ok g) (cond s (Err a) (cond t (Err b) (cond u (Err c) (Ok k)))) → (s ≡ false) × (t ≡ false) × (u ≡ false) × (g ≡ k)
+fitted_by true t u a b c g k e = absurd (err_not_ok a g e)
+fitted_by false true u a b c g k e = absurd (err_not_ok b g e)
+fitted_by false false true a b c g k e = absurd (err_not_ok c g e)
+fitted_by false false false a b c g k e = (refl, refl, refl, cc)
 
-pub accepted : (n identifier place size start have room g : ℕ) → Ok g ≡ judged n identifier place size start have room → Accepted n identifier place size start have room g
-accepted n identifier place size start have room g e =
-    let j = judged_by (ltb n (place + size)) (not (leb size 255 && size_fits identifier size)) (ltb 2048 (grown have size)) (ltb room (start + frame_size (grown have size))) _ _ _ _ g (grown have size) e in
-    let b = and_parts (leb size 255) (size_fits identifier size) (not-false _ j.1) in
-    let is = j.4 in
+pub accepted : (n identifier place size start have room g : ℕ) → place + size ≤ n → Ok g ≡ fitted identifier size start have room → Accepted n identifier place size start have room g
+accepted n identifier place size start have room g inside e =
+    let j = fitted_by (not (leb size 255 && size_fits identifier size)) (ltb 2048 (grown have size)) (ltb room (start + frame_size (grown have size))) _ _ _ g (grown have size) e in
+    let b = and_parts (leb size 255) (size_fits identifier size) (not-false _ j.0) in
+    let is = j.3 in
     record {
-      inside = ltb-false n (place + size) j.0;
+      inside = inside;
       byte = leb-true size 255 b.0;
       right = b.1;
       is = is;
-      short = omega (arith, ltb-false 2048 (grown have size) j.2);
-      fits = subst (λ k. start + frame_size k ≤ room) (sym is) (ltb-false room (start + frame_size (grown have size)) j.3);
+      short = omega (arith, ltb-false 2048 (grown have size) j.1);
+      fits = subst (λ k. start + frame_size k ≤ room) (sym is) (ltb-false room (start + frame_size (grown have size)) j.2);
     }
+
+-- with its data inside the bytes, the rest decides
+pub judged_inside : (n identifier place size start have room : ℕ) → place + size ≤ n → judged n identifier place size start have room ≡ fitted identifier size start have room
+judged_inside n identifier place size start have room inside = cond-false (ltb n (place + size)) _ _ (le-ltb n (place + size) inside)
 
 -- with the first three tests passed, only room decides
 pub judged_room : (n identifier place size start have room : ℕ) → place + size ≤ n → size ≤ 255 → size_fits identifier size ≡ true → grown have size ≤ 2048 → judged n identifier place size start have room ≡ cond (ltb room (start + frame_size (grown have size))) (Err NoRoom) (Ok (grown have size))
 judged_room n identifier place size start have room inside byte right short =
-    cond-false (ltb n (place + size)) _ _ (le-ltb n (place + size) inside)
+    judged_inside n identifier place size start have room inside
     ∙ cond-false (not (leb size 255 && size_fits identifier size)) _ _ (not_from_true _ (and_from (leb size 255) _ (le-leb size 255 byte) right))
     ∙ cond-false (ltb 2048 (grown have size)) _ _ (le-ltb 2048 (grown have size) short)
 
@@ -68,7 +71,7 @@ module _ (source : List ℕ) (identifier place size start have room g : ℕ) (a 
   part_length = length-take-le size (drop place source) (omega (arith, length-drop place source, a.inside))
 
   -- the same, as the code cuts it out
-  pub part_cut : take (place + size - place) (drop place source) ≡ part
+  part_cut : take (place + size - place) (drop place source) ≡ part
   part_cut = let k : place + size - place ≡ size = omega arith in ap (λ m. take m (drop place source)) k
 
   pub asked_well_formed : identifier < 65536 → Bytes source → WellFormed (asked source identifier place size)
@@ -81,8 +84,8 @@ module _ (source : List ℕ) (identifier place size start have room g : ℕ) (a 
   }
 
   -- the tray after the frame was extended in place
-  pub laid_is : (tray fin : List ℕ) (f : ℕ) → room ≡ length tray → f ≡ frame_size g → fin ≡ encoded 0xFF 0x36 (take have (drop (content_start have) (take (start + f - start) (drop start tray))) ++ packet_bytes (item_of identifier (take (place + size - place) (drop place source)))) → put_mid start (start + f - start) tray fin ≡ laid tray start have (asked source identifier place size)
-  laid_is tray fin f r e is =
+  pub laid_is : (tray fin content : List ℕ) (f : ℕ) → room ≡ length tray → content ≡ take (place + size - place) (drop place source) → f ≡ frame_size g → fin ≡ encoded 0xFF 0x36 (take have (drop (content_start have) (take (start + f - start) (drop start tray))) ++ packet_bytes (item_of identifier content)) → put_mid start (start + f - start) tray fin ≡ laid tray start have (asked source identifier place size)
+  laid_is tray fin content f r cut e is =
       let i : Item = asked source identifier place size in
       let d : List ℕ = content_in tray start have ++ packet_bytes i in
       let k : start + f - start ≡ f = omega arith in
@@ -95,6 +98,6 @@ module _ (source : List ℕ) (identifier place size start have room g : ℕ) (a 
       let ld : length d ≡ g = length-append (content_in tray start have) (packet_bytes i) ∙ omega (arith, a.is, part_length) in
       let lg : grown have (length i.bytes) ≡ g = omega (arith, a.is, part_length) in
       put_mid-paste start (start + f - start) tray fin (encoded 0xFF 0x36 d) f
-      (is ∙ (λ j. encoded 0xFF 0x36 (there j ++ packet_bytes (item_of identifier (part_cut j))))) (sym k)
+      (is ∙ (λ j. encoded 0xFF 0x36 (there j ++ packet_bytes (item_of identifier ((cut ∙ part_cut) j))))) (sym k)
       (e ∙ sym (encoded_size 0xFF 0x36 d (omega (arith, a.short)) ∙ ap frame_size ld))
       ∙ ap (paste tray start (encoded 0xFF 0x36 d)) (e ∙ ap frame_size (sym lg))

@@ -3,12 +3,13 @@ ghost use Rattle.std.specs.Prelude.{◌≡◌, ℕ, ◌+◌, ◌≤◌, List, []
 ghost use Rattle.xbus.specs.Frames.{encoded};
 ghost use Rattle.xbus.specs.Writing.{frame_size, content_start};
 ghost use Rattle.mtdata2.specs.Packets.{Item, item_of, packet_bytes};
-ghost use Rattle.draft.specs.Composed.{asked, grown, judged, counted, answered, closing, Holding, Added, Closed};
+ghost use Rattle.draft.specs.Composed.{asked, grown, fitted, judged, counted, answered, closing, Holding, Added, Closed};
+ghost use Rattle.std.specs.Slice.{IsGetRangeResult};
 
 use crate::lot::Lot;
 use crate::refusal::Refusal;
 use mtdata2::{DATA_MESSAGE, size_fits};
-use xbus::{DataLen, put_number, seal_frame};
+use xbus::{DataLen, seal_frame};
 
 // A packet to add: its identifier, and the place and size of its data in the bytes lent with it.
 #[derive(Clone, Copy)]
@@ -18,20 +19,22 @@ pub struct Record {
     pub size: usize,
 }
 
-// The data bytes with the record's packet, or why it is refused.
-fn judge(lot: Lot, room: usize, source: usize, packet: Record) -> Result<DataLen, Refusal>
-    ensures { counted result ≡ judged source packet.identifier packet.place packet.size lot.start lot.size.len room }
+// The part of so many bytes from a place on; none if it reaches past the end.
+fn part(bytes: &[u8], place: usize, size: usize) -> Option<&[u8]>
+    ensures { IsGetRangeResult bytes.now place (place + size) result }
 {
-    if packet.place > source || source - packet.place < packet.size {
-        return Err(Refusal::PastBytes);
-    }
-    if packet.size > 255 || !size_fits(packet.identifier, packet.size) {
+    bytes.get(place..)?.get(..size)
+}
+
+// The data bytes with a packet of so many more, or why it is refused.
+fn judge(lot: Lot, tray: &[u8], identifier: u16, size: usize) -> Result<DataLen, Refusal>
+    ensures { counted result ≡ fitted identifier size lot.start lot.size.len (length tray.now) }
+{
+    if size > 255 || !size_fits(identifier, size) {
         return Err(Refusal::WrongSize);
     }
-    let grown = DataLen::new(lot.size.len + (3 + packet.size)).ok_or(Refusal::TooLong)?;
-    if lot.start > room || room - lot.start < grown.frame_size() {
-        return Err(Refusal::NoRoom);
-    }
+    let grown = DataLen::new(lot.size.len + (3 + size)).ok_or(Refusal::TooLong)?;
+    part(tray, lot.start, grown.frame_size()).ok_or(Refusal::NoRoom)?;
     Ok(grown)
 }
 
@@ -41,10 +44,9 @@ fn put_packet(out: &mut [u8], identifier: u16, content: &[u8])
     requires { (length content.now ≤ 255) × (length out.old ≡ 3 + length content.now) }
     ensures { out.new ≡ packet_bytes (item_of identifier content.now) }
 {
-    let end = 3 + content.len();
-    put_number(&mut out[0..2], u64::from(identifier));
+    out[..2].copy_from_slice(&identifier.to_be_bytes());
     out[2] = content.len() as u8;
-    out[3..end].copy_from_slice(content);
+    out[3..].copy_from_slice(content);
 }
 
 // Adds a packet in place to a frame with `have` data bytes, which is as long as the frame with the packet, of `more`.
@@ -103,18 +105,16 @@ impl<'m> Draft<'m> {
         ensures old { self.new.lot.start ≡ self.old.lot.start }
         ensures does { MatchResult result (λ _. Added self.old self.new tray.old tray.new (asked source.now packet.identifier packet.place packet.size)) (λ _. (self.new ≡ self.old) × (tray.new ≡ tray.old)) }
     {
-        let start = self.lot.start;
-        let have = self.lot.size;
-        let grown = judge(self.lot, tray.len(), source.len(), packet)?;
+        let content = part(source, packet.place, packet.size).ok_or(Refusal::PastBytes)?;
+        let grown = judge(self.lot, tray, packet.identifier, packet.size)?;
+        let Lot { start, size: have } = self.lot;
         let end = start + grown.frame_size();
-        let place = packet.place;
-        let stop = place + packet.size;
         extend_frame(
             &mut tray[start..end],
             have,
             grown,
             packet.identifier,
-            &source[place..stop],
+            content,
         );
         self.lot.size = grown;
         *self.mark = end;
