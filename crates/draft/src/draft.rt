@@ -1,10 +1,10 @@
 // A data message that is being composed in the caller's tray.
 ghost use Rattle.std.specs.Prelude.{◌≡◌, ℕ, ◌+◌, ◌≤◌, List, [], ◌++◌, length, take, drop, is_ok, if◌then◌else◌, MatchResult};
+ghost use Rattle.std.specs.Slice.{IsGetRangeResult};
 ghost use Rattle.xbus.specs.Frames.{encoded};
 ghost use Rattle.xbus.specs.Writing.{frame_size, content_start};
 ghost use Rattle.mtdata2.specs.Packets.{Item, item_of, packet_bytes};
-ghost use Rattle.draft.specs.Composed.{asked, grown, fitted, judged, counted, answered, closing, Holding, Added, Closed};
-ghost use Rattle.std.specs.Slice.{IsGetRangeResult};
+ghost use Rattle.draft.specs.Composed.{asked, grown, sized, judged, counted, answered, closing, Holding, Added, Closed};
 
 use crate::lot::Lot;
 use crate::refusal::Refusal;
@@ -19,23 +19,21 @@ pub struct Record {
     pub size: usize,
 }
 
-// The part of so many bytes from a place on; none if it reaches past the end.
-fn part(bytes: &[u8], place: usize, size: usize) -> Option<&[u8]>
-    ensures { IsGetRangeResult bytes.now place (place + size) result }
+// The data that a record names; none if it reaches past its bytes.
+fn content_of(source: &[u8], packet: Record) -> Option<&[u8]>
+    ensures { IsGetRangeResult source.now packet.place (packet.place + packet.size) result }
 {
-    bytes.get(place..)?.get(..size)
+    source.get(packet.place..)?.get(..packet.size)
 }
 
-// The data bytes with a packet of so many more, or why it is refused.
-fn judge(lot: Lot, tray: &[u8], identifier: u16, size: usize) -> Result<DataLen, Refusal>
-    ensures { counted result ≡ fitted identifier size lot.start lot.size.len (length tray.now) }
+// The data bytes with one packet more, or why it is refused.
+fn judge(have: DataLen, packet: Record) -> Result<DataLen, Refusal>
+    ensures { counted result ≡ sized packet.identifier packet.size have.len }
 {
-    if size > 255 || !size_fits(identifier, size) {
+    if packet.size > 255 || !size_fits(packet.identifier, packet.size) {
         return Err(Refusal::WrongSize);
     }
-    let grown = DataLen::new(lot.size.len + (3 + size)).ok_or(Refusal::TooLong)?;
-    part(tray, lot.start, grown.frame_size()).ok_or(Refusal::NoRoom)?;
-    Ok(grown)
+    DataLen::new(have.len + (3 + packet.size)).ok_or(Refusal::TooLong)
 }
 
 // Writes a packet: identifier, size and data.
@@ -105,19 +103,15 @@ impl<'m> Draft<'m> {
         ensures old { self.new.lot.start ≡ self.old.lot.start }
         ensures does { MatchResult result (λ _. Added self.old self.new tray.old tray.new (asked source.now packet.identifier packet.place packet.size)) (λ _. (self.new ≡ self.old) × (tray.new ≡ tray.old)) }
     {
-        let content = part(source, packet.place, packet.size).ok_or(Refusal::PastBytes)?;
-        let grown = judge(self.lot, tray, packet.identifier, packet.size)?;
         let Lot { start, size: have } = self.lot;
-        let end = start + grown.frame_size();
-        extend_frame(
-            &mut tray[start..end],
-            have,
-            grown,
-            packet.identifier,
-            content,
-        );
+        let content = content_of(source, packet).ok_or(Refusal::PastBytes)?;
+        let grown = judge(have, packet)?;
+        let size = grown.frame_size();
+        let (_, behind) = tray.split_at_mut_checked(start).ok_or(Refusal::NoRoom)?;
+        let (frame, _) = behind.split_at_mut_checked(size).ok_or(Refusal::NoRoom)?;
+        extend_frame(frame, have, grown, packet.identifier, content);
         self.lot.size = grown;
-        *self.mark = end;
+        *self.mark = start + size;
         Ok(())
     }
 
