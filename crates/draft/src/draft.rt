@@ -60,7 +60,7 @@ fn extend_frame(frame: &mut [u8], have: DataLen, more: DataLen, identifier: u16,
         identifier,
         content,
     );
-    let _ = seal_frame(frame, DATA_MESSAGE);
+    seal_frame(frame, DATA_MESSAGE).unwrap();
 }
 
 // A data message that is being composed. It borrows the fill mark, and not the tray, which is lent to each call.
