@@ -1,5 +1,5 @@
 -- A frame with one packet more, in place.
-use Rattle.std.proofs.Common.{◌≡◌, ℕ, ◌+◌, ◌-◌, ◌≤◌, ◌&&◌, ltb, leb, List, [], ◌∷◌, ◌++◌, length, take, drop, set, Some, Option, sym, ap, ◌∙◌, ⊎_elim, arith}
+use Rattle.std.proofs.Common.{◌≡◌, ℕ, ◌+◌, ◌-◌, ◌/◌, ◌%◌, ◌≤◌, ◌&&◌, ltb, leb, List, [], ◌∷◌, ◌++◌, length, take, drop, set, Some, Option, sym, ap, ◌∙◌, div-one, ⊎_elim, arith}
 use lib.Seq.{paste}
 use borrow.Rule.Slice.PartMut.{put_mid}
 use Rattle.std.proofs.lemmas.List.{append_assoc, length-append, length-take-le, length-drop, take_at, drop_at, drop_all, append-nil}
@@ -47,15 +47,17 @@ size_back n h =
 -- ---- a packet
 
 -- identifier, size and data, written one after the other
-pub packet_laid : (out mid cs content : List ℕ) (id : ℕ) → length out ≡ 3 + length content → mid ≡ be (length (take 2 out)) id → cs ≡ content → put_mid 3 (3 + length content - 3) (set (mid ++ drop 2 out) 2 (length content)) cs ≡ be 2 id ++ (length content ∷ content)
+pub packet_laid : (out mid cs content : List ℕ) (id : ℕ) → length out ≡ 3 + length content → mid ≡ id / 256 % 256 ∷ id % 256 ∷ [] → cs ≡ content
+    → put_mid 3 (length (set (mid ++ drop 2 out) 2 (length content)) - 3) (set (mid ++ drop 2 out) 2 (length content)) cs ≡ be 2 id ++ (length content ∷ content)
 packet_laid [] mid cs content id l e f = absurd (omega arith)
 packet_laid (x ∷ []) mid cs content id l e f = absurd (omega arith)
 packet_laid (x ∷ y ∷ []) mid cs content id l e f = absurd (omega arith)
 packet_laid (x ∷ y ∷ z ∷ rest) mid cs content id l e f =
     let n : ℕ = length content in
-    let k : ℕ = 3 + n - 3 in
+    let k : ℕ = length (set (be 2 id ++ (z ∷ rest)) 2 n) - 3 in
+    let two : mid ≡ be 2 id = e ∙ ap (λ m. id / 256 % 256 ∷ m % 256 ∷ []) (sym (div-one id)) in
     let none : drop k rest ≡ [] = drop_all k rest (omega arith) in
-    ap (λ m. put_mid 3 k (set (m ++ (z ∷ rest)) 2 n) cs) e
+    ap (λ m. put_mid 3 (length (set (m ++ (z ∷ rest)) 2 n) - 3) (set (m ++ (z ∷ rest)) 2 n) cs) two
     ∙ (λ i. be 2 id ++ (n ∷ (f i ++ none i))) ∙ ap (λ t. be 2 id ++ (n ∷ t)) (append-nil content)
 
 -- ---- the data, moved, and the packet behind them

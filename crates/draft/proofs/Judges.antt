@@ -1,9 +1,7 @@
 -- What an accepted record says, and the tray and the draft after it.
-use Rattle.std.proofs.Common.{◌≡◌, ℕ, ◌+◌, ◌-◌, ◌<◌, ◌≤◌, Bool, true, false, cond, not, ◌&&◌, ltb, leb, List, ◌++◌, length, take, drop, Ok, Err, Result, sym, refl, ap, ◌∙◌, subst, arith}
-use borrow.Rule.Slice.PartMut.{put_mid}
+use Rattle.std.proofs.Common.{◌≡◌, ℕ, ◌+◌, ◌-◌, ◌<◌, ◌≤◌, Bool, true, false, cond, not, ◌&&◌, ltb, leb, List, ◌++◌, length, take, drop, Ok, Err, Result, sym, refl, ap, ◌∙◌, arith}
 use lib.Seq.{paste}
-use Rattle.std.proofs.lemmas.List.{length-append, length-take-le, length-drop}
-use Rattle.std.proofs.lemmas.Slice.{put_mid-paste}
+use Rattle.std.proofs.lemmas.List.{append_assoc, length-append, length-take-le, length-drop, take_all, drop-drop}
 use Rattle.std.proofs.lemmas.Bool.{ltb-false, leb-true, not-false, not_from_true, and_parts, and_from, le-ltb, le-leb, cond-false}
 use Rattle.xbus.specs.Numbers.{Bytes}
 use Rattle.xbus.specs.Frames.{encoded}
@@ -16,7 +14,7 @@ use Rattle.mtdata2.proofs.Frames.{frame_parts}
 use Rattle.mtdata2.proofs.Rounds.{fits_size}
 use Rattle.draft.specs.declared.refusal.Refusal.{Refusal}
 use Rattle.draft.specs.declared.refusal.Refusal.TheVariants.{NoRoom}
-use Rattle.draft.specs.Composed.{asked, grown, judged, content_in, laid}
+use Rattle.draft.specs.Composed.{asked, grown, sized, and_then, judged, content_in, laid}
 use Rattle.draft.proofs.Extends.{start_grows}
 use Rattle.draft.proofs.Holds.{content_part}
 
@@ -32,33 +30,45 @@ pub record Accepted (n identifier place size start have room g : ℕ) : Type 0 w
 err_not_ok : (e : Refusal) (g : ℕ) → ◌≡◌ {A = Result ℕ Refusal} (Ok g) (Err e) → ⊥
 err_not_ok e g p = let z : ◌≡◌ {A = ℕ} 0 1 = cc in omega arith
 
-judged_by : (s t u v : Bool) (a b c d : Refusal) (g k : ℕ) → ◌≡◌ {A = Result ℕ Refusal} (Ok g) (cond s (Err a) (cond t (Err b) (cond u (Err c) (cond v (Err d) (Ok k))))) → (s ≡ false) × (t ≡ false) × (u ≡ false) × (v ≡ false) × (g ≡ k)
-judged_by true t u v a b c d g k e = absurd (err_not_ok a g e)
-judged_by false true u v a b c d g k e = absurd (err_not_ok b g e)
-judged_by false false true v a b c d g k e = absurd (err_not_ok c g e)
-judged_by false false false true a b c d g k e = absurd (err_not_ok d g e)
-judged_by false false false false a b c d g k e = (refl, refl, refl, refl, cc)
+sized_by : (s t : Bool) (a b : Refusal) (g k : ℕ) → ◌≡◌ {A = Result ℕ Refusal} (Ok g) (cond s (Err a) (cond t (Err b) (Ok k))) → (s ≡ false) × (t ≡ false) × (g ≡ k)
+sized_by true t a b g k e = absurd (err_not_ok a g e)
+sized_by false true a b g k e = absurd (err_not_ok b g e)
+sized_by false false a b g k e = (refl, refl, cc)
 
-pub accepted : (n identifier place size start have room g : ℕ) → Ok g ≡ judged n identifier place size start have room → Accepted n identifier place size start have room g
-accepted n identifier place size start have room g e =
-    let j = judged_by (ltb n (place + size)) (not (leb size 255 && size_fits identifier size)) (ltb 2048 (grown have size)) (ltb room (start + frame_size (grown have size))) _ _ _ _ g (grown have size) e in
-    let b = and_parts (leb size 255) (size_fits identifier size) (not-false _ j.1) in
-    let is = j.4 in
+pub accepted : (n identifier place size start have room g : ℕ) → place + size ≤ n → Ok g ≡ sized identifier size have → start + frame_size g ≤ room → Accepted n identifier place size start have room g
+accepted n identifier place size start have room g inside e fits =
+    let j = sized_by (not (leb size 255 && size_fits identifier size)) (ltb 2048 (grown have size)) _ _ g (grown have size) e in
+    let b = and_parts (leb size 255) (size_fits identifier size) (not-false _ j.0) in
     record {
-      inside = ltb-false n (place + size) j.0;
+      inside = inside;
       byte = leb-true size 255 b.0;
       right = b.1;
-      is = is;
-      short = omega (arith, ltb-false 2048 (grown have size) j.2);
-      fits = subst (λ k. start + frame_size k ≤ room) (sym is) (ltb-false room (start + frame_size (grown have size)) j.3);
+      is = j.2;
+      short = omega (arith, ltb-false 2048 (grown have size) j.1);
+      fits = fits;
     }
 
--- with the first three tests passed, only room decides
+room_by : (v : Bool) (e : Refusal) (g k : ℕ) → ◌≡◌ {A = Result ℕ Refusal} (Ok g) (cond v (Err e) (Ok k)) → (v ≡ false) × (g ≡ k)
+room_by true e g k p = absurd (err_not_ok e g p)
+room_by false e g k p = (refl, cc)
+
+roomed : (r : Result ℕ Refusal) (full : ℕ → Bool) (e : Refusal) (g : ℕ) → ◌≡◌ {A = Result ℕ Refusal} (Ok g) (and_then r (λ k. cond (full k) (Err e) (Ok k))) → (Ok g ≡ r) × (full g ≡ false)
+roomed (Ok k) full e g p = let q = room_by (full k) e g k p in (ap Ok q.1, ap full q.1 ∙ q.0)
+roomed (Err f) full e g p = absurd (err_not_ok f g p)
+
+-- the same, of the whole answer
+pub accepted_inside : (n identifier place size start have room g : ℕ) → place + size ≤ n → Ok g ≡ judged n identifier place size start have room → Accepted n identifier place size start have room g
+accepted_inside n identifier place size start have room g inside e =
+    let q = roomed (sized identifier size have) (λ k. ltb room (start + frame_size k)) NoRoom g (e ∙ cond-false (ltb n (place + size)) _ _ (le-ltb n (place + size) inside)) in
+    accepted n identifier place size start have room g inside q.0 (ltb-false room (start + frame_size g) q.1)
+
+-- with its data inside the bytes and of the right size, only room decides
 pub judged_room : (n identifier place size start have room : ℕ) → place + size ≤ n → size ≤ 255 → size_fits identifier size ≡ true → grown have size ≤ 2048 → judged n identifier place size start have room ≡ cond (ltb room (start + frame_size (grown have size))) (Err NoRoom) (Ok (grown have size))
 judged_room n identifier place size start have room inside byte right short =
     cond-false (ltb n (place + size)) _ _ (le-ltb n (place + size) inside)
-    ∙ cond-false (not (leb size 255 && size_fits identifier size)) _ _ (not_from_true _ (and_from (leb size 255) _ (le-leb size 255 byte) right))
-    ∙ cond-false (ltb 2048 (grown have size)) _ _ (le-ltb 2048 (grown have size) short)
+    ∙ ap (λ r. and_then r (λ g. cond (ltb room (start + frame_size g)) (Err NoRoom) (Ok g)))
+    (cond-false (not (leb size 255 && size_fits identifier size)) _ _ (not_from_true _ (and_from (leb size 255) _ (le-leb size 255 byte) right))
+    ∙ cond-false (ltb 2048 (grown have size)) _ _ (le-ltb 2048 (grown have size) short))
 
 module _ (source : List ℕ) (identifier place size start have room g : ℕ) (a : Accepted (length source) identifier place size start have room g) where
   abbrev part : List ℕ
@@ -68,7 +78,7 @@ module _ (source : List ℕ) (identifier place size start have room g : ℕ) (a 
   part_length = length-take-le size (drop place source) (omega (arith, length-drop place source, a.inside))
 
   -- the same, as the code cuts it out
-  pub part_cut : take (place + size - place) (drop place source) ≡ part
+  part_cut : take (place + size - place) (drop place source) ≡ part
   part_cut = let k : place + size - place ≡ size = omega arith in ap (λ m. take m (drop place source)) k
 
   pub asked_well_formed : identifier < 65536 → Bytes source → WellFormed (asked source identifier place size)
@@ -80,21 +90,22 @@ module _ (source : List ℕ) (identifier place size start have room g : ℕ) (a 
     size = λ s e. part_length ∙ fits_size (data_size_of identifier) size a.right s e;
   }
 
-  -- the tray after the frame was extended in place
-  pub laid_is : (tray fin : List ℕ) (f : ℕ) → room ≡ length tray → f ≡ frame_size g → fin ≡ encoded 0xFF 0x36 (take have (drop (content_start have) (take (start + f - start) (drop start tray))) ++ packet_bytes (item_of identifier (take (place + size - place) (drop place source)))) → put_mid start (start + f - start) tray fin ≡ laid tray start have (asked source identifier place size)
-  laid_is tray fin f r e is =
+  -- the tray after the frame was extended in place, between what stands in front of it and the rest
+  pub laid_is : (tray front behind frame rest fin content : List ℕ) (f : ℕ) → f ≡ frame_size g → room ≡ length tray → front ≡ take start tray → behind ≡ drop start tray → frame ≡ take f behind → rest ≡ drop f behind → content ≡ take (place + size - place) (drop place source) → fin ≡ encoded 0xFF 0x36 (take have (drop (content_start have) frame) ++ packet_bytes (item_of identifier content)) → front ++ (fin ++ rest) ≡ laid tray start have (asked source identifier place size)
+  laid_is tray front behind frame rest fin content f n r is-front is-behind is-frame is-rest cut is =
       let i : Item = asked source identifier place size in
       let d : List ℕ = content_in tray start have ++ packet_bytes i in
-      let k : start + f - start ≡ f = omega arith in
+      let all : List ℕ = encoded 0xFF 0x36 d in
       let p = frame_parts g in
       let s = start_grows have g (omega (arith, a.is)) in
-      let there : take have (drop (content_start have) (take (start + f - start) (drop start tray))) ≡ content_in tray start have =
-      content_part tray start have (start + f - start) (omega (arith, a.is)) in
+      let there : take have (drop (content_start have) frame) ≡ content_in tray start have =
+      ap (λ x. take have (drop (content_start have) x)) (is-frame ∙ ap (take f) is-behind) ∙ content_part tray start have f (omega (arith, a.is)) in
       let lc : length (content_in tray start have) ≡ have =
       length-take-le have (drop (start + content_start have) tray) (omega (arith, length-drop (start + content_start have) tray, a.fits, a.is)) in
       let ld : length d ≡ g = length-append (content_in tray start have) (packet_bytes i) ∙ omega (arith, a.is, part_length) in
+      let la : length all ≡ f = encoded_size 0xFF 0x36 d (omega (arith, a.short)) ∙ ap frame_size ld ∙ sym n in
       let lg : grown have (length i.bytes) ≡ g = omega (arith, a.is, part_length) in
-      put_mid-paste start (start + f - start) tray fin (encoded 0xFF 0x36 d) f
-      (is ∙ (λ j. encoded 0xFF 0x36 (there j ++ packet_bytes (item_of identifier (part_cut j))))) (sym k)
-      (e ∙ sym (encoded_size 0xFF 0x36 d (omega (arith, a.short)) ∙ ap frame_size ld))
-      ∙ ap (paste tray start (encoded 0xFF 0x36 d)) (e ∙ ap frame_size (sym lg))
+      let written : fin ≡ take f all =
+      is ∙ (λ j. encoded 0xFF 0x36 (there j ++ packet_bytes (item_of identifier ((cut ∙ part_cut) j)))) ∙ sym (take_all f all (omega arith)) in
+      (λ j. is-front j ++ (written j ++ (is-rest ∙ ap (drop f) is-behind ∙ drop-drop f start tray) j))
+      ∙ sym (append_assoc (take start tray) (take f all) (drop (start + f) tray)) ∙ ap (paste tray start all) (n ∙ ap frame_size (sym lg))

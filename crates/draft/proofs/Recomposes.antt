@@ -19,7 +19,7 @@ use Rattle.draft.specs.Composed.{frame_so_far, asked, grown, judged, answered, H
 use Rattle.draft.specs.Round.{Recomposed}
 use Rattle.draft.proofs.Extends.{size_grows}
 use Rattle.draft.proofs.Holds.{frame_grows}
-use Rattle.draft.proofs.Judges.{accepted, judged_room}
+use Rattle.draft.proofs.Judges.{accepted_inside, judged_room}
 
 -- of `all` packets those in `left` are still to come; the others stand in the tray at m, which was t
 pub record Progress (all : List Item) (m : ℕ) (t tray : List ℕ) (d : Draft) (left : List Item) : Type 0 where
@@ -126,7 +126,7 @@ answered_ok x (Err f) e = let z : ◌≡◌ {A = ℕ} 0 1 = cc in absurd (omega 
 pub progress_added : (all : List Item) (m : ℕ) (t tray u : List ℕ) (d e : Draft) (i : Item) (left : List Item) (content : List ℕ) (identifier : ℕ) (x : Unit {0}) → Progress all m t tray d (i ∷ left) → asked content identifier 0 (length content) ≡ i → Added d e tray u (asked content identifier 0 (length content)) → e.lot.start ≡ d.lot.start → Ok x ≡ answered (judged (length content) identifier 0 (length content) d.lot.start d.lot.size.len (length tray)) → Progress all m t u e left
 progress_added all m t tray u d e i left content identifier x p is a same says =
     let o = answered_ok x (judged (length content) identifier 0 (length content) d.lot.start d.lot.size.len (length tray)) says in
-    let q = accepted (length content) identifier 0 (length content) d.lot.start d.lot.size.len (length tray) o.0 o.1 in
+    let q = accepted_inside (length content) identifier 0 (length content) d.lot.start d.lot.size.len (length tray) o.0 (omega arith) o.1 in
     let lc : length content ≡ length i.bytes = sym (ap length (take_all (length content) content (omega arith))) ∙ ap (λ j. length j.bytes) is in
     let g : o.0 ≡ grown d.lot.size.len (length i.bytes) = q.is ∙ ap (grown d.lot.size.len) lc in
     progress_more all m t tray u d e i left p (subst (Added d e tray u) is a) same (subst (λ k. d.lot.start + frame_size k ≤ length tray) g q.fits)

@@ -25,13 +25,21 @@ asked bytes identifier place size = item_of identifier (take size (drop place by
 abbrev pub grown : ℕ → ℕ → ℕ
 grown n size = n + (3 + size)
 
+-- the data bytes with one packet more, of so many data bytes, for a draft that has `have` of them, or why it is refused
+abbrev pub sized : ℕ → ℕ → ℕ → Result ℕ Refusal
+sized identifier size have =
+    cond (not (nat_le size 255 && size_fits identifier size)) (Err WrongSize)
+    (cond (nat_lt 2048 (grown have size)) (Err TooLong) (Ok (grown have size)))
+
+abbrev pub and_then : Result ℕ Refusal → (ℕ → Result ℕ Refusal) → Result ℕ Refusal
+and_then (Ok n) f = f n
+and_then (Err e) f = Err e
+
 -- the answer to a record, of n source bytes, for a draft that began at `start` and has `have` data bytes, in a tray of `room` bytes
 abbrev pub judged : ℕ → ℕ → ℕ → ℕ → ℕ → ℕ → ℕ → Result ℕ Refusal
 judged n identifier place size start have room =
     cond (nat_lt n (place + size)) (Err PastBytes)
-    (cond (not (nat_le size 255 && size_fits identifier size)) (Err WrongSize)
-    (cond (nat_lt 2048 (grown have size)) (Err TooLong)
-    (cond (nat_lt room (start + frame_size (grown have size))) (Err NoRoom) (Ok (grown have size)))))
+    (and_then (sized identifier size have) (λ g. cond (nat_lt room (start + frame_size g)) (Err NoRoom) (Ok g)))
 
 -- as the code has it
 abbrev pub counted : Result DataLen Refusal → Result ℕ Refusal

@@ -1,14 +1,15 @@
 // A data message that is being composed in the caller's tray.
 ghost use Rattle.std.specs.Prelude.{◌≡◌, ℕ, ◌+◌, ◌≤◌, List, [], ◌++◌, length, take, drop, is_ok, if◌then◌else◌, MatchResult};
+ghost use Rattle.std.specs.Slice.{IsGetRangeResult};
 ghost use Rattle.xbus.specs.Frames.{encoded};
 ghost use Rattle.xbus.specs.Writing.{frame_size, content_start};
 ghost use Rattle.mtdata2.specs.Packets.{Item, item_of, packet_bytes};
-ghost use Rattle.draft.specs.Composed.{asked, grown, judged, counted, answered, closing, Holding, Added, Closed};
+ghost use Rattle.draft.specs.Composed.{asked, grown, sized, judged, counted, answered, closing, Holding, Added, Closed};
 
 use crate::lot::Lot;
 use crate::refusal::Refusal;
 use mtdata2::{DATA_MESSAGE, size_fits};
-use xbus::{DataLen, put_number, seal_frame};
+use xbus::{DataLen, seal_frame};
 
 // A packet to add: its identifier, and the place and size of its data in the bytes lent with it.
 #[derive(Clone, Copy)]
@@ -18,21 +19,21 @@ pub struct Record {
     pub size: usize,
 }
 
-// The data bytes with the record's packet, or why it is refused.
-fn judge(lot: Lot, room: usize, source: usize, packet: Record) -> Result<DataLen, Refusal>
-    ensures { counted result ≡ judged source packet.identifier packet.place packet.size lot.start lot.size.len room }
+// The data that a record names; none if it reaches past its bytes.
+fn content_of(source: &[u8], packet: Record) -> Option<&[u8]>
+    ensures { IsGetRangeResult source.now packet.place (packet.place + packet.size) result }
 {
-    if packet.place > source || source - packet.place < packet.size {
-        return Err(Refusal::PastBytes);
-    }
+    source.get(packet.place..)?.get(..packet.size)
+}
+
+// The data bytes with one packet more, or why it is refused.
+fn judge(have: DataLen, packet: Record) -> Result<DataLen, Refusal>
+    ensures { counted result ≡ sized packet.identifier packet.size have.len }
+{
     if packet.size > 255 || !size_fits(packet.identifier, packet.size) {
         return Err(Refusal::WrongSize);
     }
-    let grown = DataLen::new(lot.size.len + (3 + packet.size)).ok_or(Refusal::TooLong)?;
-    if lot.start > room || room - lot.start < grown.frame_size() {
-        return Err(Refusal::NoRoom);
-    }
-    Ok(grown)
+    DataLen::new(have.len + (3 + packet.size)).ok_or(Refusal::TooLong)
 }
 
 // Writes a packet: identifier, size and data.
@@ -41,10 +42,9 @@ fn put_packet(out: &mut [u8], identifier: u16, content: &[u8])
     requires { (length content.now ≤ 255) × (length out.old ≡ 3 + length content.now) }
     ensures { out.new ≡ packet_bytes (item_of identifier content.now) }
 {
-    let end = 3 + content.len();
-    put_number(&mut out[0..2], u64::from(identifier));
+    out[..2].copy_from_slice(&identifier.to_be_bytes());
     out[2] = content.len() as u8;
-    out[3..end].copy_from_slice(content);
+    out[3..].copy_from_slice(content);
 }
 
 // Adds a packet in place to a frame with `have` data bytes, which is as long as the frame with the packet, of `more`.
@@ -60,7 +60,7 @@ fn extend_frame(frame: &mut [u8], have: DataLen, more: DataLen, identifier: u16,
         identifier,
         content,
     );
-    let _ = seal_frame(frame, DATA_MESSAGE);
+    seal_frame(frame, DATA_MESSAGE).unwrap();
 }
 
 // A data message that is being composed. It borrows the fill mark, and not the tray, which is lent to each call.
@@ -103,21 +103,15 @@ impl<'m> Draft<'m> {
         ensures old { self.new.lot.start ≡ self.old.lot.start }
         ensures does { MatchResult result (λ _. Added self.old self.new tray.old tray.new (asked source.now packet.identifier packet.place packet.size)) (λ _. (self.new ≡ self.old) × (tray.new ≡ tray.old)) }
     {
-        let start = self.lot.start;
-        let have = self.lot.size;
-        let grown = judge(self.lot, tray.len(), source.len(), packet)?;
-        let end = start + grown.frame_size();
-        let place = packet.place;
-        let stop = place + packet.size;
-        extend_frame(
-            &mut tray[start..end],
-            have,
-            grown,
-            packet.identifier,
-            &source[place..stop],
-        );
+        let Lot { start, size: have } = self.lot;
+        let content = content_of(source, packet).ok_or(Refusal::PastBytes)?;
+        let grown = judge(have, packet)?;
+        let size = grown.frame_size();
+        let (_, behind) = tray.split_at_mut_checked(start).ok_or(Refusal::NoRoom)?;
+        let (frame, _) = behind.split_at_mut_checked(size).ok_or(Refusal::NoRoom)?;
+        extend_frame(frame, have, grown, packet.identifier, content);
         self.lot.size = grown;
-        *self.mark = end;
+        *self.mark = start + size;
         Ok(())
     }
 

@@ -75,13 +75,12 @@ fn cut(rest: &[u8], place: usize) -> Result<(Packet<'_>, &[u8]), Fault>
     };
     let identifier = u16::from_be_bytes([*high, *low]);
     let size = usize::from(*size);
-    if after.len() < size {
-        return Err(Reason::ContentCut.at(place + 2));
-    }
+    let (content, behind) = after
+        .split_at_checked(size)
+        .ok_or(Reason::ContentCut.at(place + 2))?;
     if !size_fits(identifier, size) {
         return Err(Reason::WrongSize.at(place + 2));
     }
-    let (content, behind) = after.split_at(size);
     Ok((packet_of(identifier, content), behind))
 }
 
