@@ -1,5 +1,5 @@
 // Frames, their front, the bytes that wait.
-use stream::Waiting;
+use stream::{FrameWaits, Waiting};
 use xbus::{
     Frame, Front, Header, WriteError, at_front, first_frame, number, put_number, sum, write_frame,
 };
@@ -62,7 +62,7 @@ fn waiting_identifier(waiting: &Waiting) -> Option<u8> {
 fn one_byte_is_dropped(rt: HostRuntime) {
     let mut waiting = Waiting::new();
     for byte in [0xFA, 0xFA, 0xFF, 0x00, 0x00, 0x01] {
-        let _ = waiting.take_byte(byte);
+        assert_eq!(rt; waiting.take_byte(byte), Ok(()));
     }
     assert_eq!(rt; waiting_identifier(&waiting), Some(0x00));
     assert_eq!(rt; waiting.bytes().len(), 5);
@@ -75,10 +75,10 @@ fn frames_inside_a_failed_frame(rt: HostRuntime) {
         0xFAu8, 0xFF, 0x10, 0x0A, 0xFA, 0xFF, 0x00, 0x00, 0x01, 0xFA, 0xFF, 0x12, 0x00, 0xEF, 0x00,
     ];
     for byte in frames {
-        let _ = waiting.take_byte(byte);
+        assert_eq!(rt; waiting.take_byte(byte), Ok(()));
     }
     assert_eq!(rt; waiting_identifier(&waiting), Some(0x00));
-    assert!(rt; waiting.take_byte(0x00).is_err());
+    assert_eq!(rt; waiting.take_byte(0x00), Err(FrameWaits));
     waiting.pass();
     assert_eq!(rt; waiting_identifier(&waiting), Some(0x12));
     waiting.pass();

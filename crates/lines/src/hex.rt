@@ -12,7 +12,7 @@ fn value(c: u8) -> Option<u8>
 }
 
 // The upper-case digit for a number below 16.
-// Form: by hand, since char::from_digit gives lower-case digits.
+// Form: by hand, since char::from_digit gives a lower-case char, and turning that into an upper-case byte is no plainer.
 fn digit(n: u8) -> u8
     requires { n < 16 }
     ensures { result ≡ hex_digit n }

@@ -39,6 +39,7 @@ impl fmt::Display for LineFault {
 
 impl Error for LineFault {}
 
+// Form: for callers' `?`, since it has always been public.
 impl From<AllocError> for LineFault {
     ghost from_gives = { λ _ r. r ≡ Memory };
 

@@ -4,6 +4,7 @@ use std::alloc::AllocFailed;
 use std::fmt;
 
 // Why a line is not understood.
+// Form: NotAByte by name, since a LineFault in its place could be Memory, which ends the program.
 #[derive(Clone, Copy, Debug, PartialEq, Eq)]
 pub enum Misread {
     UnknownCommand,

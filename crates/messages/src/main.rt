@@ -38,11 +38,10 @@ fn answer(rt: &HostRuntime, line: &[u8]) -> Result<(), LineError> {
 // Answers line by line, and gives the status: whether each line was understood.
 fn answer_all(rt: &HostRuntime, text: &[u8]) -> anyhow::Result<ExitCode> {
     let mut status = ExitCode::SUCCESS;
-    for (lines_before, line) in lines_in(text).enumerate() {
+    for (number, line) in (1u64..).zip(lines_in(text)) {
         match answer(rt, line) {
             Ok(()) => {}
             Err(LineError::Misread(misread)) => {
-                let number = lines_before.saturating_add(1);
                 eprintln!(rt; "line {number}: {misread}")?;
                 status = ExitCode::FAILURE;
             }

@@ -1,9 +1,9 @@
 // Readings in four precisions: one as text, many as a hash.
 use crate::fault::Misread;
-use lines::{decimal_of, digits, next_word, words_in};
+use lines::{decimal_of, next_word, words_in};
 use mti::Precision;
-use numbers::put_real;
-use std::alloc::AllocError;
+use numbers::{LOWEST, put_real};
+use std::fmt::Write;
 
 const PRECISIONS: [Precision; 4] = [
     Precision::Single,
@@ -17,10 +17,10 @@ const MOST: u64 = 1_000_000;
 
 // The whole number that decimal digits, with a minus sign in front or not, stand for.
 fn number_of(word: &[u8]) -> Option<i64> {
-    match word {
-        [b'-', digits @ ..] => i64::try_from(decimal_of(digits)?).ok()?.checked_neg(),
-        digits => i64::try_from(decimal_of(digits)?).ok(),
-    }
+    let (sign, digits) = word
+        .strip_prefix(b"-")
+        .map_or((1, word), |digits| (-1, digits));
+    i64::try_from(decimal_of(digits)?).ok()?.checked_mul(sign)
 }
 
 // The only word of a line.
@@ -47,17 +47,8 @@ pub fn read_seed_and_count(line: &[u8]) -> Result<(u64, u64), Misread> {
     Ok((seed, count))
 }
 
-// Appends the digits of bytes, without spaces.
-fn push_digits(out: &mut String, bytes: &[u8]) -> Result<(), AllocError> {
-    for byte in bytes {
-        for digit in digits(*byte) {
-            out.push(char::from(digit))?;
-        }
-    }
-    Ok(())
-}
-
 // Prints a reading in the four precisions.
+// Form: a loop like that of hashed_reading, since a closure for both would have to tell no memory from out of range.
 pub fn print_reading(rt: &HostRuntime, value: i64) -> anyhow::Result<()> {
     let mut text = String::from_str(rt.alloc(), "v")?;
     for precision in PRECISIONS {
@@ -67,7 +58,9 @@ pub fn print_reading(rt: &HostRuntime, value: i64) -> anyhow::Result<()> {
             return Ok(());
         };
         text.push_str(" ")?;
-        push_digits(&mut text, &bytes[0..size])?;
+        for byte in &bytes[0..size] {
+            write!(text, "{byte:02X}")?;
+        }
     }
     rt.println(text.as_str())?;
     Ok(())
@@ -92,9 +85,9 @@ fn hashed_reading(hash: u64, value: i64) -> u64 {
     hash
 }
 
-// The reading that a number of the sequence gives: from -2^47 to 2^47 - 1.
+// The reading that a number of the sequence gives: from LOWEST to HIGHEST.
 fn reading_of(x: u64) -> i64 {
-    (x >> 16) as i64 - 0x8000_0000_0000
+    LOWEST + (x >> 16) as i64
 }
 
 // The hash over many readings from a seed.

@@ -25,6 +25,7 @@ impl Refusal {
 }
 
 // What a feed did.
+// Form: two answers, since a frame that is served in silence writes nothing.
 #[derive(Clone, Copy, PartialEq, Debug)]
 pub struct Fed {
     // bytes taken
