@@ -43,15 +43,13 @@ fn lay(out: &mut [u8], bytes: &[u8]) -> Option<usize>
     ensures after { out.new ≡ laid_in bytes.now out.old }
 {
     let len = bytes.len();
-    if len > out.len() {
-        return None;
-    }
-    out[..len].copy_from_slice(bytes);
+    let (front, _) = out.split_at_mut_checked(len)?;
+    front.copy_from_slice(bytes);
     Some(len)
 }
 
-// Form: settings and device ID stay two parameters, since only this function and Configuration take both.
 // Writes the answer at the front, and says how many bytes it has; none, and nothing is written, if it does not fit.
+// Form: settings and device ID stay two parameters, since only this function and Configuration take both.
 #[tactic(auto, using(crate::proofs::Layouts::answer_bound), unfolding(crate::specs::Answered::answer_of))]
 pub fn answer(
     settings: &Settings,
