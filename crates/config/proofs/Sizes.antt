@@ -1,10 +1,10 @@
 -- The sizes of data, and bytes written entry after entry.
-use Rattle.std.proofs.Common.{◌≡◌, ℕ, ◌+◌, ◌*◌, ◌<◌, ◌≤◌, List, [], ◌∷◌, ◌++◌, length, replicate, get_or, take, Some, None, Option, sym, refl, ap, ◌∙◌, append-nil, div-one, ◌/◌, ◌%◌, ◌-◌, arith}
-use Rattle.std.specs.List.{sum_by}
+use Rattle.std.proofs.Common.{◌≡◌, ℕ, ◌+◌, ◌*◌, ◌<◌, ◌≤◌, List, [], ◌∷◌, ◌++◌, length, replicate, get_or, take, Some, None, Option, sym, refl, ap, ◌∙◌, append-nil, div-one, ◌/◌, ◌%◌, arith}
+use Rattle.std.specs.List.{sum_by, flat_map}
 use Rattle.std.proofs.lemmas.List.Sums.{sum_by-cons}
-use borrow.Rule.Slice.PartMut.{put_mid}
-use Rattle.std.proofs.lemmas.Slice.{take-put_mid}
-use Rattle.std.proofs.lemmas.List.{take_more}
+use Rattle.std.proofs.lemmas.List.{take_more, take_more_set}
+use Rattle.std.proofs.lemmas.List.Concat.{flat_map-append}
+use Rattle.std.proofs.Math.ListN.{set}
 use Rattle.mti.specs.Identifiers.{data_size_of, Bounded}
 use Rattle.mti.proofs.Named.{size_bounded}
 use Rattle.xbus.specs.Numbers.{be}
@@ -28,14 +28,14 @@ output_push [] e = append-nil _
 output_push (x ∷ es) e = ap (λ (ys : List ℕ). be 2 x.identifier ++ be 2 x.frequency ++ ys) (output_push es e)
 
 -- one entry more is written
-pub written_more : (es : List Entry) (i : ℕ) (out four : List ℕ) → i < length es → length es ≤ 32 → length out ≡ 128
-    → take (4 * i) out ≡ output_bytes (take i es)
+pub written_more : (es : List Entry) (i : ℕ) (out : List (List ℕ)) (four : List ℕ) → i < length es → i < length out
+    → flat_map (λ bytes. bytes) (take i out) ≡ output_bytes (take i es)
     → four ≡ be 2 (get_or es i (entry 0 0)).identifier ++ be 2 (get_or es i (entry 0 0)).frequency
-    → take (4 * (i + 1)) (put_mid (4 * i) (4 * i + 4 - 4 * i) out four) ≡ output_bytes (take (i + 1) es)
-written_more es i out four h few size inv e =
-    let l : length four ≡ 4 = ap length e in
-    take-put_mid (4 * i) (4 * i + 4 - 4 * i) out four (4 * (i + 1)) (omega arith) (omega arith)
-    ∙ (λ t. inv t ++ e t)
+    → flat_map (λ bytes. bytes) (take (i + 1) (set out i four)) ≡ output_bytes (take (i + 1) es)
+written_more es i out four h room inv e =
+    ap (flat_map (λ bytes. bytes)) (take_more_set out i four room)
+    ∙ flat_map-append (λ bytes. bytes) (take i out) (four ∷ [])
+    ∙ (λ t. inv t ++ (append-nil four ∙ e) t)
     ∙ sym (ap output_bytes (take_more es i (entry 0 0) h) ∙ output_push (take i es) (get_or es i (entry 0 0)))
 
 -- the bytes of a number

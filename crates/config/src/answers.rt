@@ -1,6 +1,7 @@
 // The data of answers.
-ghost use Rattle.std.specs.Prelude.{◌≡◌, ◌*◌, length, take};
-ghost use Rattle.settings.specs.Values.{listed};
+ghost use Rattle.std.specs.Prelude.{◌≡◌, ◌≤◌, ◌++◌, length, take};
+ghost use Rattle.std.specs.List.{flat_map};
+ghost use Rattle.xbus.specs.Numbers.{be};
 ghost use Rattle.settings.specs.View.{values_of};
 ghost use Rattle.config.specs.Answered.{name_of, output_bytes, answer_of, count_in, laid_in};
 ghost use Rattle.config.specs.Told.{AnswerBound};
@@ -8,7 +9,7 @@ ghost use Rattle.config.specs.Told.{AnswerBound};
 use crate::layout::configuration;
 use decision::Question;
 use mti::Product;
-use settings::{Entries, Settings};
+use settings::{Entry, MOST_ENTRIES, Settings};
 
 const FIRMWARE: [u8; 11] = [1, 0, 0, 0, 0, 0, 0, 0, 0, 0, 0];
 
@@ -23,16 +24,23 @@ fn name(product: Product) -> &'static [u8]
     }
 }
 
-// Four bytes for each entry, at the front.
-fn output_bytes(entries: &Entries) -> [u8; 128]
-    ensures { take (4 * length (listed entries.now)) result ≡ output_bytes (listed entries.now) }
+// The four bytes of an entry.
+fn entry_bytes(entry: &Entry) -> [u8; 4]
+    ensures { result ≡ be 2 entry.now.identifier ++ be 2 entry.now.frequency }
 {
-    let mut out = [0; 128];
-    for (i, entry) in entries.as_slice().iter().enumerate() {
-        let identifier = entry.identifier.to_be_bytes();
-        let frequency = entry.frequency.to_be_bytes();
-        let four = [identifier[0], identifier[1], frequency[0], frequency[1]];
-        out[4 * i..4 * i + 4].copy_from_slice(&four);
+    let [a, b] = entry.identifier.to_be_bytes();
+    let [c, d] = entry.frequency.to_be_bytes();
+    [a, b, c, d]
+}
+
+// The bytes of the entries, each in its place.
+fn output_bytes(entries: &[Entry]) -> [[u8; 4]; MOST_ENTRIES]
+    requires { length entries.now ≤ 32 }
+    ensures { flat_map (λ bytes. bytes) (take (length entries.now) result) ≡ output_bytes entries.now }
+{
+    let mut out = [[0; 4]; MOST_ENTRIES];
+    for (i, entry) in entries.iter().enumerate() {
+        out[i] = entry_bytes(entry);
     }
     out
 }
@@ -43,15 +51,13 @@ fn lay(out: &mut [u8], bytes: &[u8]) -> Option<usize>
     ensures after { out.new ≡ laid_in bytes.now out.old }
 {
     let len = bytes.len();
-    if len > out.len() {
-        return None;
-    }
-    out[..len].copy_from_slice(bytes);
+    let (front, _) = out.split_at_mut_checked(len)?;
+    front.copy_from_slice(bytes);
     Some(len)
 }
 
-// Form: settings and device ID stay two parameters, since only this function and Configuration take both.
 // Writes the answer at the front, and says how many bytes it has; none, and nothing is written, if it does not fit.
+// Form: settings and device ID stay two parameters, since only this function and Configuration take both.
 #[tactic(auto, using(crate::proofs::Layouts::answer_bound), unfolding(crate::specs::Answered::answer_of))]
 pub fn answer(
     settings: &Settings,
@@ -75,8 +81,8 @@ pub fn answer(
         Question::Profile => lay(out, &[1, values.profile]),
         Question::Flags => lay(out, &values.flags.to_be_bytes()),
         Question::Outputs => {
-            let len = 4 * values.entries.as_slice().len();
-            lay(out, &output_bytes(&values.entries)[..len])
+            let entries = settings.entries();
+            lay(out, output_bytes(entries)[..entries.len()].as_flattened())
         }
     }
 }

@@ -16,9 +16,10 @@ use settings::{Record, Settings};
 pub struct WrongValue;
 
 // The settings after the change, if the product can have them.
-#[tactic(auto, unfolding(crate::specs::Changed::changed_of))]
-fn changed(settings: &Settings, asked: Change<'_>) -> Option<Settings>
-    ensures { option_map values_of result ≡ changed_of (values_of settings.now) (changing asked.entry) }
+#[tactic(auto, using(crate::proofs::Exacts::changed_said), unfolding(crate::specs::Changed::changed_of))]
+pub fn change(settings: &Settings, asked: Change<'_>) -> Result<Settings, WrongValue>
+    ensures is { option_map values_of (result_ok result) ≡ changed_of (values_of settings.now) (changing asked.entry) }
+    ensures said { ChangedSaid }
 {
     let product = settings.product();
     let old = settings.values();
@@ -28,7 +29,7 @@ fn changed(settings: &Settings, asked: Change<'_>) -> Option<Settings>
         Change::Location(location) => Record { location, ..old },
         // No product has a profile that is no byte.
         Change::Profile(profile) => Record {
-            profile: u8::try_from(profile).ok()?,
+            profile: u8::try_from(profile).map_err(|_| WrongValue)?,
             ..old
         },
         // Clear first, then Set.
@@ -37,18 +38,10 @@ fn changed(settings: &Settings, asked: Change<'_>) -> Option<Settings>
             ..old
         },
         Change::Outputs(bytes) => Record {
-            entries: asked_outputs(bytes)?,
+            entries: asked_outputs(bytes).ok_or(WrongValue)?,
             ..old
         },
-        Change::Factory => return Some(Settings::factory(product)),
+        Change::Factory => return Ok(Settings::factory(product)),
     };
-    Settings::checked(product, &values)
-}
-
-// The settings after the change, if the product can have them.
-pub fn change(settings: &Settings, asked: Change<'_>) -> Result<Settings, WrongValue>
-    ensures is { option_map values_of (result_ok result) ≡ changed_of (values_of settings.now) (changing asked.entry) }
-    ensures said { ChangedSaid }
-{
-    changed(settings, asked).ok_or(WrongValue)
+    Settings::checked(product, &values).ok_or(WrongValue)
 }

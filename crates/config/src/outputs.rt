@@ -28,12 +28,10 @@ fn used_entries(bytes: &[u8]) -> Entries
     ensures { listed result ≡ map used (entries_in bytes.now) }
 {
     let mut entries = Entries::new();
-    let mut rest = bytes;
-    while let [a, b, c, d, tail @ ..] = rest {
-        let identifier = u16::from_be_bytes([*a, *b]);
-        let asked = u16::from_be_bytes([*c, *d]);
-        entries.push(used_entry(identifier, asked)).unwrap();
-        rest = tail;
+    for four in bytes.as_chunks::<4>().0 {
+        let [a, b, c, d] = *four;
+        let entry = used_entry(u16::from_be_bytes([a, b]), u16::from_be_bytes([c, d]));
+        entries.push(entry).unwrap();
     }
     entries
 }
