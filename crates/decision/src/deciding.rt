@@ -44,6 +44,7 @@ pub fn fits_entries(len: usize) -> bool
 }
 
 // The number that at most four bytes stand for.
+// Form: one reader, whose number is cut by `as` to two bytes, since a reader for each length is no plainer.
 fn value(bytes: &[u8]) -> u32
     requires { length bytes.now ≤ 4 }
     ensures value { result ≡ number_of bytes.now }
