@@ -15,12 +15,7 @@ pub fn compose(message: &Message<'_>, mark: &mut usize, tray: &mut [u8]) -> Resu
     let mut draft = Draft::begin(mark);
     for packet in message.packets() {
         let content = packet.content();
-        let record = Record {
-            identifier: packet.identifier(),
-            place: 0,
-            size: content.len(),
-        };
-        draft.add(tray, content, record)?;
+        draft.add(tray, content, Record::whole(packet.identifier(), content))?;
     }
     draft.close()
 }

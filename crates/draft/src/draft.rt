@@ -12,11 +12,25 @@ use mtdata2::{DATA_MESSAGE, size_fits};
 use xbus::{DataLen, seal_frame};
 
 // A packet to add: its identifier, and the place and size of its data in the bytes lent with it.
+// Form: place and size, and no slice, since a caller is told by a refusal that a record reaches past its bytes.
 #[derive(Clone, Copy)]
 pub struct Record {
     pub identifier: u16,
     pub place: usize,
     pub size: usize,
+}
+
+impl Record {
+    // The packet whose data are all of the bytes lent with it.
+    pub fn whole(identifier: u16, content: &[u8]) -> Record
+        ensures { result ≡ record { identifier = identifier; place = 0; size = length content.now } }
+    {
+        Record {
+            identifier,
+            place: 0,
+            size: content.len(),
+        }
+    }
 }
 
 // The data that a record names; none if it reaches past its bytes.
@@ -37,7 +51,7 @@ fn judge(have: DataLen, packet: Record) -> Result<DataLen, Refusal>
 }
 
 // Writes a packet: identifier, size and data.
-// Form: identifier and data are two parameters, since only this function and `extend_frame` take both.
+// Form: two parameters, since mtdata2's Packet has the same pair with its kind, and one of both alone would only be taken apart here.
 fn put_packet(out: &mut [u8], identifier: u16, content: &[u8])
     requires { (length content.now ≤ 255) × (length out.old ≡ 3 + length content.now) }
     ensures { out.new ≡ packet_bytes (item_of identifier content.now) }

@@ -50,12 +50,7 @@ fn compose_at(mark: &mut usize, tray: &mut [u8], packets: &[Packet]) -> Result<(
     let mut draft = Draft::begin(mark);
     for packet in packets {
         let content = packet.content.as_slice();
-        let record = Record {
-            identifier: packet.identifier,
-            place: 0,
-            size: content.len(),
-        };
-        draft.add(tray, content, record)?;
+        draft.add(tray, content, Record::whole(packet.identifier, content))?;
     }
     draft.close()
 }

@@ -33,6 +33,7 @@ fn read_body(input: &[u8], header: Header, size: DataLen) -> Result<Body<'_>, Fa
 }
 
 // The frame that the input is.
+// Form: header patterns as in xbus's `classify`, since there a cut header waits, and here it is a fault with a place.
 pub(crate) fn read_frame(input: &[u8]) -> Result<Body<'_>, Fault>
     ensures { seen_body result ≡ frame_of input.now }
 {
