@@ -10,7 +10,7 @@ fn identifiers(rt: HostRuntime) {
     assert_eq!(rt; data_size(0x2022), Some(54));
     assert_eq!(rt; data_size(0x1021), None);
     assert_eq!(rt; data_size(0x2014), None);
-    assert!(rt; known(0x0000).is_none());
+    assert_eq!(rt; known(0x0000), None);
 }
 
 #[test]

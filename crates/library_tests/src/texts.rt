@@ -1,5 +1,7 @@
 // Lines, words and bytes in hexadecimal.
-use lines::{byte_of, bytes_of, decimal_of, lines_in, next_line, next_word, push_bytes, words_in};
+use lines::{
+    LineFault, byte_of, bytes_of, decimal_of, lines_in, next_line, next_word, push_bytes, words_in,
+};
 use std::test::Fail;
 
 #[test]
@@ -10,8 +12,8 @@ fn words_of_a_line(rt: HostRuntime) -> Result<(), Fail> {
     let (word, behind) = next_word(line).ok_or("no word")?;
     assert_eq!(rt; word, b"f".as_slice());
     assert_eq!(rt; behind, b" FA".as_slice());
-    assert!(rt; next_word(b"   ").is_none());
-    assert!(rt; next_line(b"").is_none());
+    assert_eq!(rt; next_word(b"   "), None);
+    assert_eq!(rt; next_line(b""), None);
     assert_eq!(rt; words_in(b"  f FA").count(), 2);
     assert_eq!(rt; lines_in(b"  f FA\r\nr").count(), 2);
     Ok(())
@@ -31,7 +33,10 @@ fn numbers_of_words(rt: HostRuntime) {
 fn bytes_of_a_line(rt: HostRuntime) -> Result<(), Fail> {
     let bytes = bytes_of(rt.alloc(), b" FA 0b ")?;
     assert_eq!(rt; bytes.as_slice(), [0xFAu8, 0x0B].as_slice());
-    assert!(rt; bytes_of(rt.alloc(), b"FA 1").is_err());
+    assert_eq!(rt;
+        bytes_of(rt.alloc(), b"FA 1").err(),
+        Some(LineFault::NotAByte)
+    );
     let mut text = String::new(rt.alloc());
     push_bytes(&mut text, bytes.as_slice())?;
     assert_eq!(rt; text.as_str(), " FA 0B");

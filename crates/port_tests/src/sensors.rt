@@ -15,53 +15,46 @@ const fn at(channel: u16, index: usize, tick: u32) -> Question {
     }
 }
 
-// The sensor gives these readings.
-fn gives<S: Sensor>(rt: &impl Abort, sensor: &mut S, readings: &[(Question, i64)]) {
-    for (question, number) in readings {
-        assert_eq!(rt; sensor.reading(*question), Some(*number));
-    }
-}
-
-// The sensor gives no reading for these questions.
-fn lacks<S: Sensor>(rt: &impl Abort, sensor: &mut S, questions: &[Question]) {
-    for question in questions {
-        assert_eq!(rt; sensor.reading(*question), None);
+// The sensor answers each question with the reading beside it.
+fn answers<S: Sensor>(rt: &impl Abort, sensor: &mut S, readings: &[(Question, Option<i64>)]) {
+    for (question, reading) in readings {
+        assert_eq!(rt; sensor.reading(*question), *reading);
     }
 }
 
 // What neither sensor answers.
-fn silent() -> [Question; 9] {
+fn silent() -> [(Question, Option<i64>); 9] {
     [
-        at(0x1020, 0, 9),
-        at(0x1060, 0, 9),
-        at(0x1070, 0, 9),
-        at(0xE010, 0, 9),
-        at(0x2011, 0, 9),
-        at(0x0000, 0, 9),
-        at(0x2010, 4, 9),
-        at(0x2020, 9, 9),
-        at(0x3010, 1, 9),
+        (at(0x1020, 0, 9), None),
+        (at(0x1060, 0, 9), None),
+        (at(0x1070, 0, 9), None),
+        (at(0xE010, 0, 9), None),
+        (at(0x2011, 0, 9), None),
+        (at(0x0000, 0, 9), None),
+        (at(0x2010, 4, 9), None),
+        (at(0x2020, 9, 9), None),
+        (at(0x3010, 1, 9), None),
     ]
 }
 
 #[test]
 fn ramp(rt: HostRuntime) {
     let mut sensor = Ramp;
-    lacks(&rt, &mut sensor, &silent());
-    gives(
+    answers(&rt, &mut sensor, &silent());
+    answers(
         &rt,
         &mut sensor,
         &[
-            (at(0x2010, 0, 0), -32768 * ONE),
-            (at(0x2010, 0, 1), -32767 * ONE),
-            (at(0x2020, 8, 1000), -23768 * ONE),
-            (at(0x4020, 1, 32767), 32766 * ONE),
-            (at(0x4020, 1, 32768), -32768 * ONE),
-            (at(0x0810, 0, 65535), 32767 * ONE),
-            (at(0x0810, 0, 65536), -32768 * ONE),
-            (at(0x8030, 3, 4294967295), 32764 * ONE),
-            (at(0x3010, 0, 70000), 70000),
-            (at(0xE020, 0, 4294967295), 4294967295),
+            (at(0x2010, 0, 0), Some(-32768 * ONE)),
+            (at(0x2010, 0, 1), Some(-32767 * ONE)),
+            (at(0x2020, 8, 1000), Some(-23768 * ONE)),
+            (at(0x4020, 1, 32767), Some(32766 * ONE)),
+            (at(0x4020, 1, 32768), Some(-32768 * ONE)),
+            (at(0x0810, 0, 65535), Some(32767 * ONE)),
+            (at(0x0810, 0, 65536), Some(-32768 * ONE)),
+            (at(0x8030, 3, 4294967295), Some(32764 * ONE)),
+            (at(0x3010, 0, 70000), Some(70000)),
+            (at(0xE020, 0, 4294967295), Some(4294967295)),
         ],
     );
 }
@@ -88,7 +81,7 @@ fn rows_that_are_not_asked(rt: HostRuntime) {
         row(0x3010, 0, 1),
     ];
     let mut sensor = Recorded { rows: &rows };
-    lacks(&rt, &mut sensor, &silent());
+    answers(&rt, &mut sensor, &silent());
 }
 
 #[test]
@@ -102,21 +95,19 @@ fn rows_out_of_order(rt: HostRuntime) {
         row(0x4020, 20, 600),
     ];
     let mut sensor = Recorded { rows: &rows };
-    lacks(
-        &rt,
-        &mut sensor,
-        &[at(0x4020, 1, 9), at(0x2030, 0, 60), at(0x4020, 3, 60)],
-    );
-    gives(
+    answers(
         &rt,
         &mut sensor,
         &[
-            (at(0x4020, 1, 10), 200),
-            (at(0x4020, 1, 19), 200),
-            (at(0x4020, 1, 20), 600),
-            (at(0x4020, 1, 60), 600),
-            (at(0x8020, 1, 60), 300),
-            (at(0x4020, 2, 60), 2),
+            (at(0x4020, 1, 9), None),
+            (at(0x2030, 0, 60), None),
+            (at(0x4020, 3, 60), None),
+            (at(0x4020, 1, 10), Some(200)),
+            (at(0x4020, 1, 19), Some(200)),
+            (at(0x4020, 1, 20), Some(600)),
+            (at(0x4020, 1, 60), Some(600)),
+            (at(0x8020, 1, 60), Some(300)),
+            (at(0x4020, 2, 60), Some(2)),
         ],
     );
 }
@@ -124,7 +115,7 @@ fn rows_out_of_order(rt: HostRuntime) {
 #[test]
 fn no_rows(rt: HostRuntime) {
     let mut sensor = Recorded { rows: &[] };
-    lacks(&rt, &mut sensor, &[at(0x4020, 0, 4294967295)]);
+    answers(&rt, &mut sensor, &[(at(0x4020, 0, 4294967295), None)]);
 }
 
 #[test]
@@ -148,16 +139,16 @@ fn clamped_numbers(rt: HostRuntime) {
         above,
     ];
     let mut sensor = Recorded { rows: &rows };
-    gives(
+    answers(
         &rt,
         &mut sensor,
         &[
-            (at(0x4020, 1, 1), 0x7FFF_FFFF_FFFF),
-            (at(0x4020, 1, 2), 0x7FFF_FFFF_FFFF),
-            (at(0x4020, 1, 3), -0x8000_0000_0000),
-            (at(0x4020, 1, 4), -0x8000_0000_0000),
-            (at(0xE020, 0, 1), 0),
-            (at(0xE020, 0, 2), 0xFFFF_FFFF),
+            (at(0x4020, 1, 1), Some(0x7FFF_FFFF_FFFF)),
+            (at(0x4020, 1, 2), Some(0x7FFF_FFFF_FFFF)),
+            (at(0x4020, 1, 3), Some(-0x8000_0000_0000)),
+            (at(0x4020, 1, 4), Some(-0x8000_0000_0000)),
+            (at(0xE020, 0, 1), Some(0)),
+            (at(0xE020, 0, 2), Some(0xFFFF_FFFF)),
         ],
     );
 }
