@@ -1,17 +1,60 @@
 -- The largest divisor of a maximum: how a search from above meets it, and what it is in words.
-use Rattle.std.proofs.Common.{◌≡◌, ℕ, zero, suc, ◌-◌, ◌/◌, ◌%◌, ◌<◌, ◌≤◌, min, eqb, sym, ap, ◌∙◌, ⊎_elim, mod-eq_of_lt, div-add-mod', arith}
+use Rattle.std.proofs.Common.{◌≡◌, ℕ, zero, suc, ◌+◌, ◌-◌, ◌/◌, ◌%◌, ◌<◌, ◌≤◌, Bool, true, false, cond, List, [], ◌∷◌, Some, Option, min, eqb, refl, sym, ap, ◌∙◌, ⊎_elim, mod-eq_of_lt, div-add-mod', arith}
 use native.Mathlib.Nat.{mod-one, mul-mod_left}
-use Rattle.std.proofs.lemmas.Bool.{cond-true, cond-false, cond_both, eq-eqb, ne_eqb, eqb-true, eqb-false, cases_lt, cases_eq}
+use Rattle.std.specs.List.{find}
+use Rattle.std.specs.Option.{unwrap_or}
+use Rattle.std.specs.Iterator.{AlwaysYields}
+use Rattle.std.specs.Iterator.Adapters.{rev_source, rev_steps}
+use Rattle.std.specs.Range.{range_inclusive_start, range_inclusive_end, range_inclusive_exhausted, range_inclusive_len, range_inclusive_left, range_inclusive_steps_back}
+use Rattle.std.proofs.lemmas.Iterator.{YieldsList}
+use Rattle.std.proofs.lemmas.Bool.{cond_both, eqb-true, eqb-false, cases_lt, cases_eq, cases_Bool}
 use Rattle.settings.specs.Rates.{divisor_from, largest_divisor, Divides, Largest, DivisorSaid}
 
--- one step of the search from above
-pub found : (m n : ℕ) → 0 < n → m % n ≡ 0 → n ≡ divisor_from m n
-found m zero h e = absurd (omega arith)
-found m (suc n) h e = sym (cond-true _ _ _ (eq-eqb _ _ e))
+-- ---- the search from above
 
-pub passed : (m n : ℕ) → 0 < n → (m % n ≡ 0 → ⊥) → divisor_from m (n - 1) ≡ divisor_from m n
-passed m zero h e = absurd (omega arith)
-passed m (suc n) h e = let p : suc n - 1 ≡ n = omega arith in ap (divisor_from m) p ∙ sym (cond-false _ _ _ (ne_eqb _ _ e))
+-- n, n - 1, .. 1
+abbrev pub down : ℕ → List ℕ
+down zero = []
+down (suc n) = suc n ∷ down n
+
+first_or : (b : Bool) (x r : ℕ) (o : Option ℕ) → unwrap_or o 0 ≡ r → unwrap_or (cond b (Some x) o) 0 ≡ cond b x r
+first_or true x r o e = refl
+first_or false x r o e = e
+
+pub found_down : (m n : ℕ) → unwrap_or (find (λ (d : ℕ). eqb (m % d) 0) (down n)) 0 ≡ divisor_from m n
+found_down m zero = refl
+found_down m (suc n) = first_or (eqb (m % suc n) 0) (suc n) _ _ (found_down m n)
+
+-- how many numbers a range has left, whose last is taken or not
+abbrev left : ℕ → ℕ → Bool → ℕ
+left a b taken = range_inclusive_len (λ (x y : ℕ). y - x) a b taken
+
+gives_down : (n : ℕ) (s : _) → range_inclusive_left (λ (x y : ℕ). y - x) (rev_source s) ≡ n
+    → (0 < n → range_inclusive_end (rev_source s) ≡ n) → AlwaysYields (rev_steps (range_inclusive_steps_back (λ (x y : ℕ). y - x) (λ (x y : ℕ). y ≡ x + 1))) (λ (x : ℕ). x) s (down n)
+gives_down zero s e f = λ x j p. omega (arith, p.1.1)
+gives_down (suc n) s e f = (
+  (λ j p. omega (arith, p.1.0)),
+  λ x j p.
+      let a = range_inclusive_start (rev_source j) in
+      let b = range_inclusive_end (rev_source j) in
+      let l : range_inclusive_left (λ (x y : ℕ). y - x) (rev_source j) ≡ n = omega (arith, p.1.1) in
+      let end : range_inclusive_end (rev_source s) ≡ suc n = f (omega arith) in (
+        p.1.0 ∙ end,
+        gives_down n j l
+            (λ h.
+            ⊎_elim
+            (λ (t : range_inclusive_exhausted (rev_source j) ≡ true). absurd (omega (arith, ap (left a b) t)))
+            (λ (t : range_inclusive_exhausted (rev_source j) ≡ false). omega (arith, p.1.2 t))
+            (cases_Bool (range_inclusive_exhausted (rev_source j)))),
+      ),
+)
+
+-- the range from 1 to n, backwards
+pub counts_down : (n : ℕ) (s : _) → ◌≡◌ {A = ℕ} (range_inclusive_start (rev_source s)) 1 → range_inclusive_end (rev_source s) ≡ n
+    → range_inclusive_exhausted (rev_source s) ≡ false → YieldsList (rev_steps (range_inclusive_steps_back (λ (x y : ℕ). y - x) (λ (x y : ℕ). y ≡ x + 1))) (λ (x : ℕ). x) s (down n)
+counts_down n s a b e =
+    let l = ap (left (range_inclusive_start (rev_source s)) (range_inclusive_end (rev_source s))) e in
+    record { runs = gives_down n s (omega (arith, l)) (λ h. b) }
 
 -- ---- divisors
 

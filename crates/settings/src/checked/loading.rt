@@ -1,5 +1,5 @@
 // Settings from an image.
-ghost use Rattle.std.specs.Prelude.{◌≡◌, ◌+◌, ◌^◌, ◌<◌, ◌≤◌, length};
+ghost use Rattle.std.specs.Prelude.{◌≡◌, ◌≤◌};
 ghost use Rattle.std.specs.Option.{option_map};
 ghost use Rattle.std.specs.Str.{bytes_eq};
 ghost use Rattle.settings.specs.Values.{recorded, listed};
@@ -11,28 +11,19 @@ use super::Settings;
 use crate::record::{Entries, Entry, MOST_ENTRIES, Record};
 use mti::Product;
 use store::IMAGE;
-use xbus::number;
-
-// The number in so many bytes from a place on.
-fn number_at(image: &[u8; IMAGE], at: usize, width: usize) -> u64
-    requires { (at + width ≤ 140) × (width ≤ 4) }
-    ensures is { result ≡ number_at image.now at width }
-    ensures within { result < 256 ^ width }
-{
-    number(&image[at..at + width])
-}
 
 // So many entries: identifiers from byte 12 on, frequencies from byte 76 on.
-// Form: an index, since an entry has the same place in both columns, and the definition counts places too.
 fn read_entries(image: &[u8; IMAGE], count: usize) -> Entries
     requires { count ≤ 32 }
     ensures { listed result ≡ entries_at image.now count }
 {
+    let identifiers = image[12..76].as_chunks().0;
+    let frequencies = image[76..].as_chunks().0;
     let mut entries = Entries::new();
-    for i in 0..count {
+    for (identifier, frequency) in identifiers[..count].iter().zip(frequencies) {
         let entry = Entry {
-            identifier: number_at(image, 12 + 2 * i, 2) as u16,
-            frequency: number_at(image, 76 + 2 * i, 2) as u16,
+            identifier: u16::from_be_bytes(*identifier),
+            frequency: u16::from_be_bytes(*frequency),
         };
         entries.push(entry).unwrap();
     }
@@ -47,9 +38,9 @@ fn read(image: &[u8; IMAGE]) -> Record
     Record {
         baud: image[2],
         profile: image[3],
-        error_mode: number_at(image, 4, 2) as u16,
-        location: number_at(image, 6, 2) as u16,
-        flags: number_at(image, 8, 4) as u32,
+        error_mode: u16::from_be_bytes([image[4], image[5]]),
+        location: u16::from_be_bytes([image[6], image[7]]),
+        flags: u32::from_be_bytes([image[8], image[9], image[10], image[11]]),
         entries: read_entries(image, usize::from(image[1])),
     }
 }

@@ -32,10 +32,11 @@ fn at_100_hz(identifiers: &[u16]) -> Entries
 fn factory_entries(product: Product) -> Entries
     ensures { listed result ≡ factory_entries product }
 {
-    match product {
-        Product::MtiG710 => at_100_hz(&FACTORY),
-        _ => at_100_hz(&FACTORY[..4]),
-    }
+    let identifiers = match product {
+        Product::MtiG710 => &FACTORY[..],
+        _ => &FACTORY[..4],
+    };
+    at_100_hz(identifiers)
 }
 
 impl Settings {
@@ -44,7 +45,7 @@ impl Settings {
         ensures is { option_map values_of result ≡ checked_of (recorded product values.now) }
         ensures said { ValidSaid }
     {
-        // Form: the type says that settings are valid, so they are made only where the test holds.
+        // Form: an `if`, since the closure that `then` takes knows the test only by a clause of its own, which is longer.
         if is_valid(product, values) {
             Some(Settings {
                 product,

@@ -1,22 +1,21 @@
-use Rattle.std.proofs.Common.{◌≡◌, sym, ap, ◌∙◌, arith}
+-- The search from above.
+use Rattle.std.proofs.Common.{rules, tests, ℕ, ◌%◌, eqb, sym, ap, ◌∙◌}
+use Rattle.std.specs.Option.{unwrap_or}
+use Rattle.std.proofs.lemmas.Iterator.Adapters.{option_map_id}
+use Rattle.std.proofs.lemmas.Iterator.Search.{find_from_yields_List}
 use Rattle.settings.specs.Rates.{divisor_from, largest_divisor}
-use Rattle.settings.proofs.Divisors.{found, passed, divisor_said}
+use Rattle.settings.proofs.Divisors.{counts_down, found_down, divisor_said}
 use Rattle.settings.proofs.rate.largest_divisor.Goals as goal
 
-pub loop-hz-init : goal.loop-hz-init
+pub returns : goal.returns
 unfolding largest_divisor
-loop-hz-init c = ap (divisor_from c.args.max_hz) c.min-hz.ensures
-
-pub returns-then-max_hz-hz-eq0 : goal.returns-then-max_hz-hz-eq0
-returns-then-max_hz-hz-eq0 c = record {
-  is = found c.args.max_hz c.loop-hz.hz (omega arith) c.if-max_hz-hz-eq0.true ∙ c.loop-hz.invariant;
+returns c = record {
+  is =
+      c.unwrap_or.ensures
+      ∙ ap (λ o. unwrap_or o 0)
+      (sym (option_map_id c.find.result)
+      ∙ find_from_yields_List (λ (d : ℕ). eqb (c.args.max_hz % d) 0) _ _ c.find.result c.find.ensures.ran
+      (counts_down c.min.result c.rev.result (search rules) (search rules) (search rules)) (λ x b q k. search (rules, tests)))
+      ∙ found_down c.args.max_hz c.min.result ∙ ap (divisor_from c.args.max_hz) c.min.ensures;
   said = divisor_said;
 }
-
-pub loop-hz-preserved : goal.loop-hz-preserved
-loop-hz-preserved c = passed c.args.max_hz c.loop-hz.hz (omega arith) c.if-max_hz-hz-eq0.false ∙ c.loop-hz.invariant
-
-pub returns : goal.returns
-returns c =
-    let z : c.loop-hz.hz ≡ 0 = omega arith in
-    record { is = ap (divisor_from c.args.max_hz) (sym z) ∙ c.loop-hz.invariant; said = divisor_said }
