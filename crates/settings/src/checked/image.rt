@@ -38,6 +38,7 @@ fn fields(settings: &Settings) -> [u8; 12]
 }
 
 // The 32 places of a number of each entry; 0 stands in those that no entry has.
+// Form: places by their index, since the library does not say what an array holds where an adapter lent its parts.
 fn column<F: Fn(&Entry) -> u16>(entries: &Entries, number: F) -> [u8; 64]
     requires { F.IsAlwaysCallable number }
     ensures { (f : Entry → ℕ) → ((e : Entry) (n : ℕ) → FnReturnsAt F.Fn number e n → n ≡ f e) → result ≡ places 32 (map f (listed entries.now)) }
