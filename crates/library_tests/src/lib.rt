@@ -1,3 +1,5 @@
+#![tactic(auto)]
+
 // Worked examples of the libraries, each proved to be safe and then run.
 #[cfg(test)]
 mod frames;
