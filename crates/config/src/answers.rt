@@ -40,6 +40,7 @@ fn output_bytes(entries: &[Entry]) -> [[u8; 4]; MOST_ENTRIES]
     ensures { flat_map (λ bytes. bytes) (take (length entries.now) result) ≡ output_bytes entries.now }
 {
     let mut out = [[0; 4]; MOST_ENTRIES];
+    // Form: an index, since after a loop over a zip of `out` and the entries a proof knows nothing of `out`.
     for (i, entry) in entries.iter().enumerate() {
         out[i] = entry_bytes(entry);
     }
