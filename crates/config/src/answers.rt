@@ -34,7 +34,6 @@ fn entry_bytes(entry: &Entry) -> [u8; 4]
 }
 
 // The bytes of the entries, each in its place.
-// Form: places by their index, since the library does not say what an array holds where an adapter lent its parts.
 fn output_bytes(entries: &[Entry]) -> [[u8; 4]; MOST_ENTRIES]
     requires { length entries.now ≤ 32 }
     ensures { flat_map (λ bytes. bytes) (take (length entries.now) result) ≡ output_bytes entries.now }
