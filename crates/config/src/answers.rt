@@ -58,7 +58,7 @@ fn lay(out: &mut [u8], bytes: &[u8]) -> Option<usize>
 }
 
 // Writes the answer at the front, and says how many bytes it has; none, and nothing is written, if it does not fit.
-// Form: settings and device ID stay two parameters, since only this function and Configuration take both.
+// Form: settings and device ID stay two parameters, since only this function and `configuration` take both.
 #[tactic(auto, using(crate::proofs::Layouts::answer_bound), unfolding(crate::specs::Answered::answer_of))]
 pub fn answer(
     settings: &Settings,

@@ -6,7 +6,7 @@ ghost use Rattle.settings.specs.View.{values_of};
 ghost use Rattle.config.specs.Answered.{packet_bytes, data_bytes, configuration_of};
 ghost use Rattle.config.specs.Told.{ConfigurationSaid};
 
-use mti::data_size;
+use mti::{PACKET_HEADER, data_size};
 use settings::{Entries, Settings};
 
 // The bytes of a packet with the data of an output.
@@ -14,7 +14,7 @@ fn packet_bytes(identifier: u16) -> usize
     ensures is { result ≡ packet_bytes (data_size_of identifier) }
     ensures few { result ≤ 75 }
 {
-    data_size(identifier).map_or(0, |size| 3 + size)
+    data_size(identifier).map_or(0, |size| PACKET_HEADER + size)
 }
 
 // The data bytes of a message that has the data of all entries.

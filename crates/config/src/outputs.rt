@@ -44,6 +44,7 @@ fn is_emptying(bytes: &[u8]) -> bool
 }
 
 // The outputs that the bytes ask for: none for four zeros, else 1 to 32 entries.
+// Form: the length is tested again, since `change` is promised for the bytes of any change.
 pub(crate) fn asked_outputs(bytes: &[u8]) -> Option<Entries>
     ensures { option_map listed result ≡ asked_outputs bytes.now }
 {

@@ -9,6 +9,7 @@ ghost use Rattle.draft.specs.Composed.{asked, grown, sized, judged, counted, ans
 use crate::lot::Lot;
 use crate::refusal::Refusal;
 use mtdata2::{DATA_MESSAGE, size_fits};
+use mti::PACKET_HEADER;
 use xbus::{DataLen, seal_frame};
 
 // A packet to add: its identifier, and the place and size of its data in the bytes lent with it.
@@ -47,18 +48,19 @@ fn judge(have: DataLen, packet: Record) -> Result<DataLen, Refusal>
     if packet.size > 255 || !size_fits(packet.identifier, packet.size) {
         return Err(Refusal::WrongSize);
     }
-    DataLen::new(have.len + (3 + packet.size)).ok_or(Refusal::TooLong)
+    DataLen::new(have.len + (PACKET_HEADER + packet.size)).ok_or(Refusal::TooLong)
 }
 
 // Writes a packet: identifier, size and data.
-// Form: two parameters, since mtdata2's Packet has the same pair with its kind, and one of both alone would only be taken apart here.
+// Form: two parameters, since a pair would be made by one caller only to be taken apart here.
+// Form: `as u8`, since `judge` has tested the size, and a size handed on would be the slice's length once more.
 fn put_packet(out: &mut [u8], identifier: u16, content: &[u8])
     requires { (length content.now ≤ 255) × (length out.old ≡ 3 + length content.now) }
     ensures { out.new ≡ packet_bytes (item_of identifier content.now) }
 {
     out[..2].copy_from_slice(&identifier.to_be_bytes());
     out[2] = content.len() as u8;
-    out[3..].copy_from_slice(content);
+    out[PACKET_HEADER..].copy_from_slice(content);
 }
 
 // Adds a packet in place to a frame with `have` data bytes, which is as long as the frame with the packet, of `more`.

@@ -39,7 +39,7 @@ impl fmt::Display for LineFault {
 
 impl Error for LineFault {}
 
-// Form: for callers' `?`, since it has always been public.
+// Form: one From for each of the two errors of memory, since both were public, and a caller's `?` may meet either.
 impl From<AllocError> for LineFault {
     ghost from_gives = { λ _ r. r ≡ Memory };
 

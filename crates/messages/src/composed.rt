@@ -46,6 +46,7 @@ pub fn read_packets(heap: Global, line: &[u8]) -> Result<Vec<Packet>, LineError>
 }
 
 // Composes the packets at the mark of the tray.
+// Form: a loop of its own, since draft's compose takes a message that was read, of which its theorem speaks.
 fn compose_at(mark: &mut usize, tray: &mut [u8], packets: &[Packet]) -> Result<(), Refusal> {
     let mut draft = Draft::begin(mark);
     for packet in packets {

@@ -2,7 +2,7 @@
 use lines::push_bytes;
 use mtdata2::{Fault, Packet, read};
 
-// Form: no Display for a fault, since these words and their order are the program's line and not the library's.
+// Form: no Display for a fault, since only this line puts number, layer and place in this order.
 fn print_fault(rt: &HostRuntime, fault: Fault) -> anyhow::Result<()> {
     let number = fault.number();
     let layer = fault.layer();

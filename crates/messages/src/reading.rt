@@ -48,7 +48,7 @@ pub fn read_seed_and_count(line: &[u8]) -> Result<(u64, u64), Misread> {
 }
 
 // Prints a reading in the four precisions.
-// Form: a loop like that of hashed_reading, since a closure for both would have to tell no memory from out of range.
+// Form: a loop like that of hashed_reading, since a function for both would hand out a buffer and its size.
 pub fn print_reading(rt: &HostRuntime, value: i64) -> anyhow::Result<()> {
     let mut text = String::from_str(rt.alloc(), "v")?;
     for precision in PRECISIONS {

@@ -7,6 +7,9 @@ ghost use Rattle.mti.specs.Identifiers.{plain, known_of, identifier_of, size_of,
 use crate::channel::{Channel, Kind, find_channel};
 use crate::precision::Precision;
 
+// The bytes in front of the data of a packet: the identifier and the size.
+pub const PACKET_HEADER: usize = 3;
+
 // The identifier of the channel: the identifier with 0 for its format digit.
 pub fn channel_identifier(identifier: u16) -> u16
     ensures { result ≡ plain identifier }

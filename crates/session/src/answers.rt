@@ -25,7 +25,7 @@ impl Refusal {
 }
 
 // What a feed did.
-// Form: two answers, since a frame that is served in silence writes nothing.
+// Form: written beside served, since the definitions of calls and sessions name both, and a caller sends what was written in any case.
 #[derive(Clone, Copy, PartialEq, Debug)]
 pub struct Fed {
     // bytes taken

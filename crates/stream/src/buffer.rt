@@ -3,8 +3,7 @@ ghost use Rattle.std.specs.Prelude.{◌≡◌, ◌≤◌, true, length, take};
 ghost use Rattle.xbus.specs.Front.{front_of};
 ghost use Rattle.stream.specs.Settling.{is_front_by};
 
-// The bytes of the longest frame.
-pub const LONGEST: usize = 2055;
+use xbus::LONGEST;
 
 #[derive(Drop)]
 pub struct Waiting {

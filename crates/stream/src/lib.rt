@@ -6,7 +6,8 @@ mod reading;
 mod settling;
 mod waiting;
 
-pub use buffer::{LONGEST, Waiting};
+pub use buffer::Waiting;
 pub use reading::{Piece, Pieces, next_piece, read_recording};
 pub use settling::{Settled, settle};
 pub use waiting::FrameWaits;
+pub use xbus::LONGEST;

@@ -5,9 +5,9 @@ ghost use Rattle.xbus.specs.Parts.{first_parts, seen};
 ghost use Rattle.stream.specs.Settling.{settled};
 ghost use Rattle.stream.specs.Waiting.{held, taking, took, passed};
 
-use crate::buffer::{LONGEST, Waiting};
+use crate::buffer::Waiting;
 use crate::settling::settle;
-use xbus::{Frame, first_frame};
+use xbus::{Frame, LONGEST, first_frame};
 
 // A whole frame waits, and no byte is taken before it is passed.
 #[derive(Clone, Copy, Debug, PartialEq)]

@@ -1,7 +1,7 @@
 // How many data bytes a frame has.
 ghost use Rattle.std.specs.Prelude.{◌≡◌, ◌≤◌};
 
-use crate::front::MOST_DATA;
+use crate::front::{LONGEST, MOST_DATA};
 
 // A number of data bytes that a frame may have.
 #[derive(Clone, Copy, Debug, PartialEq)]
@@ -32,7 +32,7 @@ impl DataLen {
     {
         match size {
             5..=259 => Some(DataLen { len: size - 5 }),
-            262..=2055 => Some(DataLen { len: size - 7 }),
+            262..=LONGEST => Some(DataLen { len: size - 7 }),
             _ => None,
         }
     }

@@ -16,6 +16,9 @@ pub const EXTENDED: u8 = 0xFF;
 // The most data bytes that a frame holds.
 pub const MOST_DATA: usize = 2048;
 
+// The bytes of the longest frame.
+pub const LONGEST: usize = 2055;
+
 #[derive(Clone, Copy, Debug, PartialEq)]
 pub enum Front {
     // a frame of so many bytes
@@ -43,10 +46,10 @@ fn announced(bytes: &[u8], len: DataLen) -> Front
     ensures { result ≡ announced (frame_size len.len) bytes.now }
 {
     let size = len.frame_size();
-    if bytes.len() < size {
+    let Some(part) = bytes.get(1..size) else {
         return Front::Waits;
-    }
-    if sum(&bytes[1..size]) == 0 {
+    };
+    if sum(part) == 0 {
         Front::Whole(size)
     } else {
         Front::Wrong
@@ -54,7 +57,7 @@ fn announced(bytes: &[u8], len: DataLen) -> Front
 }
 
 // What stands at the front, by the header.
-// Form: apart from `at_front`, since in one the check takes 40 seconds, for each theorem at each of 15 ways out.
+// Form: apart from `at_front`, since in one each theorem is owed at each way out, and no line gets plainer by it.
 // Form: `read_frame` of mtdata2 has a match of its own: there no bytes and a cut header are faults, and here they wait.
 fn classify(bytes: &[u8]) -> Front
     ensures { result ≡ front_of bytes.now }
