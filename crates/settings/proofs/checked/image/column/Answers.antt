@@ -1,6 +1,6 @@
 -- Each place follows those before it.
 use Rattle.std.proofs.Common.{◌≡◌, map, length, take, get_or, ◌+◌, ◌-◌, sym, refl, ap, ◌∙◌, arith}
-use Rattle.std.proofs.lemmas.List.{map_more, take_all, length-map, length-take-le}
+use Rattle.std.proofs.lemmas.List.{map_more, length-map, length-take-le}
 use Rattle.xbus.specs.Numbers.{be}
 use Rattle.settings.specs.Values.{entry}
 use Rattle.settings.specs.Image.{places}
@@ -22,8 +22,3 @@ loop-i-preserved g c = λ f h.
     (c.copy_from_slice.ensures.after ∙ c.to_be_bytes.ensures ∙ two_bytes c.number.result ∙ ap (be 2) v)
     (c.loop-i.invariant f h)
     ∙ ap (places 32) (sym (map_more f es i (entry 0 0) (omega arith)))
-
-pub returns : goal.returns
-returns g c = λ f h.
-    let es = c.as_slice-entry-items.result.now in
-    c.loop-i.invariant f h ∙ ap (λ es. places 32 (map f es)) (take_all c.loop-i.i es (omega arith) ∙ c.as_slice-entry-items.ensures.is)
