@@ -2,7 +2,7 @@
 use Rattle.std.proofs.Common.{◌≡◌, ℕ, ◌+◌, ◌-◌, ◌/◌, ◌%◌, ◌≤◌, ◌&&◌, ltb, leb, List, [], ◌∷◌, ◌++◌, length, take, drop, set, Some, Option, sym, ap, ◌∙◌, div-one, ⊎_elim, arith}
 use lib.Seq.{paste}
 use borrow.Rule.Slice.PartMut.{put_mid}
-use Rattle.std.proofs.lemmas.List.{append_assoc, length-append, length-take-le, length-drop, take_at, drop_at, drop_all, append-nil}
+use Rattle.std.proofs.lemmas.List.{append_assoc, length-append, length-take-le, length-drop, take_at, drop_at, drop_all, drop-drop, take-append-drop, append-nil}
 use Rattle.std.proofs.lemmas.Bool.{lt-ltb, le-ltb, le-leb, lt-leb, cond-true, cond-false, cases_lt, and_from, and_right}
 use Rattle.xbus.specs.Numbers.{be}
 use Rattle.xbus.specs.Frames.{encoded}
@@ -59,6 +59,14 @@ packet_laid (x ∷ y ∷ z ∷ rest) mid cs content id l e f =
     let none : drop k rest ≡ [] = drop_all k rest (omega arith) in
     ap (λ m. put_mid 3 (length (set (m ++ (z ∷ rest)) 2 n) - 3) (set (m ++ (z ∷ rest)) 2 n) cs) two
     ∙ (λ i. be 2 id ++ (n ∷ (f i ++ none i))) ∙ ap (λ t. be 2 id ++ (n ∷ t)) (append-nil content)
+
+-- bytes that are copied to their own place
+pub paste_self : (xs : List ℕ) (at n : ℕ) → xs ≡ paste xs at (drop at xs) n
+paste_self xs at n =
+    sym
+    (append_assoc (take at xs) (take n (drop at xs)) (drop (at + n) xs)
+    ∙ ap (λ r. take at xs ++ (take n (drop at xs) ++ r)) (sym (drop-drop n at xs))
+    ∙ ap (λ r. take at xs ++ r) (take-append-drop n (drop at xs)) ∙ take-append-drop at xs)
 
 -- ---- the data, moved, and the packet behind them
 

@@ -1,5 +1,6 @@
 // A data message that is being composed in the caller's tray.
 ghost use Rattle.std.specs.Prelude.{◌≡◌, ℕ, ◌+◌, ◌≤◌, List, [], ◌++◌, length, take, drop, is_ok, if◌then◌else◌, MatchResult};
+ghost use Rattle.std.proofs.Math.Seq.{paste};
 ghost use Rattle.std.specs.Slice.{IsGetRangeResult};
 ghost use Rattle.xbus.specs.Frames.{encoded};
 ghost use Rattle.xbus.specs.Writing.{frame_size, content_start};
@@ -63,6 +64,17 @@ fn put_packet(out: &mut [u8], identifier: u16, content: &[u8])
     out[PACKET_HEADER..].copy_from_slice(content);
 }
 
+// Moves `len` bytes from place `old` to place `new`.
+fn shift(frame: &mut [u8], old: usize, new: usize, len: usize)
+    requires { (old + len ≤ length frame.old) × (new + len ≤ length frame.old) }
+    ensures bytes { frame.new ≡ paste frame.old new (drop old frame.old) len }
+    ensures size { length frame.new ≡ length frame.old }
+{
+    if new != old {
+        frame.copy_within(old..old + len, new);
+    }
+}
+
 // Adds a packet in place to a frame with `have` data bytes, which is as long as the frame with the packet, of `more`.
 fn extend_frame(frame: &mut [u8], have: DataLen, more: DataLen, identifier: u16, content: &[u8])
     requires { (length content.now ≤ 255) × ((more.len ≡ grown have.len (length content.now)) × (length frame.old ≡ frame_size more.len)) }
@@ -70,7 +82,7 @@ fn extend_frame(frame: &mut [u8], have: DataLen, more: DataLen, identifier: u16,
 {
     let old = have.content_start();
     let new = more.content_start();
-    frame.copy_within(old..old + have.len, new);
+    shift(frame, old, new, have.len);
     put_packet(
         &mut frame[new + have.len..new + more.len],
         identifier,

@@ -1,4 +1,5 @@
 pub mod Settles
+pub mod Untils
 pub mod Keeps
 pub mod Holds
 pub mod Readings

@@ -28,6 +28,10 @@ dropped_none (x ∷ xs) n = by (front_of (x ∷ xs)) n
     by Waits n = refl
     by Wrong n = absurd (n refl)
 
+-- what waits is settled
+pub settled_waits : (xs : List ℕ) → front_of xs ≡ Waits → settled xs ≡ xs
+settled_waits xs e = ap (λ k. drop k xs) (dropped_none xs (λ w. waits_not_wrong (sym e ∙ w)))
+
 pub dropped_within : (xs : List ℕ) → dropped xs ≤ length xs
 dropped_within [] = omega arith
 dropped_within (x ∷ xs) = by (front_of (x ∷ xs)) (dropped_within xs)
@@ -57,7 +61,7 @@ pub record Reached (xs : List ℕ) (n : ℕ) : Type 0 where
   pub within : n ≤ length xs
   pub count : dropped xs ≡ n + dropped (drop n xs)
 
-not_wrong : (whole : Option ℕ) → front_by whole ≡ Wrong → ⊥
+pub not_wrong : (whole : Option ℕ) → front_by whole ≡ Wrong → ⊥
 not_wrong (Some n) e = whole_not_wrong n e
 not_wrong None e = waits_not_wrong e
 

@@ -1,3 +1,4 @@
 pub mod Settling
+pub mod Until
 pub mod Waiting
 pub mod Reading

@@ -4,6 +4,7 @@
 mod buffer;
 mod reading;
 mod settling;
+mod until;
 mod waiting;
 
 pub use buffer::Waiting;

@@ -1,5 +1,6 @@
 // The bytes that wait to be read: taking one, looking at the frame at the front, passing it.
-ghost use Rattle.std.specs.Prelude.{◌≡◌, ◌≤◌, [], length, take, drop};
+ghost use Rattle.std.specs.Prelude.{◌≡◌, ◌-◌, ◌≤◌, [], ◌∷◌, ◌++◌, length, take, drop, None};
+ghost use Rattle.std.proofs.Math.Seq.{paste};
 ghost use Rattle.std.specs.Option.{option_map};
 ghost use Rattle.xbus.specs.Parts.{first_parts, seen};
 ghost use Rattle.stream.specs.Settling.{settled};
@@ -7,11 +8,23 @@ ghost use Rattle.stream.specs.Waiting.{held, taking, took, passed};
 
 use crate::buffer::Waiting;
 use crate::settling::settle;
-use xbus::{Frame, LONGEST, first_frame};
+use crate::until::waits_until;
+use xbus::{Frame, LONGEST, START, first_frame};
 
 // A whole frame waits, and no byte is taken before it is passed.
 #[derive(Clone, Copy, Debug, PartialEq)]
 pub struct FrameWaits;
+
+// Moves the bytes from `start` to `end` to the front.
+fn move_to_front(bytes: &mut [u8; LONGEST], start: usize, end: usize)
+    requires { (start ≤ end) × (end ≤ length bytes.old) }
+    ensures bytes { bytes.new ≡ paste bytes.old 0 (drop start bytes.old) (end - start) }
+    ensures size { length bytes.new ≡ length bytes.old }
+{
+    if start > 0 {
+        bytes.copy_within(start..end, 0);
+    }
+}
 
 impl Waiting {
     pub fn new() -> Waiting
@@ -21,6 +34,7 @@ impl Waiting {
             bytes: [0u8; LONGEST],
             len: 0,
             whole: None,
+            until: 0,
         }
     }
 
@@ -39,9 +53,24 @@ impl Waiting {
     {
         let found = settle(&self.bytes[from..end]);
         let start = from + found.dropped;
-        self.bytes.copy_within(start..end, 0);
+        move_to_front(&mut self.bytes, start, end);
         self.len = end - start;
         self.whole = found.whole;
+        self.until = waits_until(&self.bytes[..end - start]);
+    }
+
+    // Puts a byte behind the others and settles. While too few are there, nothing is to be settled.
+    fn push(&mut self, byte: u8)
+        requires { self.old.whole ≡ None }
+        ensures { held self.new ≡ settled (held self.old ++ (byte ∷ [])) }
+    {
+        let end = self.len + 1;
+        self.bytes[self.len] = byte;
+        if end < self.until {
+            self.len = end;
+        } else {
+            self.keep(0, end);
+        }
     }
 
     // Takes one byte more and settles, unless a whole frame waits.
@@ -52,9 +81,10 @@ impl Waiting {
         if self.whole.is_some() {
             return Err(FrameWaits);
         }
-        let end = self.len + 1;
-        self.bytes[self.len] = byte;
-        self.keep(0, end);
+        // Where nothing waits, only FA is kept.
+        if self.len > 0 || byte == START {
+            self.push(byte);
+        }
         Ok(())
     }
 
@@ -62,7 +92,10 @@ impl Waiting {
     pub fn frame(&self) -> Option<Frame<'_>>
         ensures { option_map seen result ≡ first_parts (held self.now) }
     {
-        first_frame(self.bytes())
+        match self.whole {
+            Some(_) => first_frame(self.bytes()),
+            None => None,
+        }
     }
 
     // Passes the whole frame at the front and settles.

@@ -14,8 +14,8 @@ pub fn number(bytes: &[u8]) -> u64
     n
 }
 
-// Fills `out` with the lowest bytes of a number: the lowest first, and then the other way round.
-pub fn put_number(out: &mut [u8], value: u64)
+// The same as `put_number`, byte by byte: the lowest first, and then the other way round.
+fn put_bytewise(out: &mut [u8], value: u64)
     ensures { out.new ≡ be (length out.old) value }
 {
     let mut rest = value;
@@ -24,4 +24,17 @@ pub fn put_number(out: &mut [u8], value: u64)
         rest /= 256;
     }
     out.reverse();
+}
+
+// Fills `out` with the lowest bytes of a number: at once, unless they are more than a number has.
+pub fn put_number(out: &mut [u8], value: u64)
+    ensures { out.new ≡ be (length out.old) value }
+{
+    let bytes = value.to_be_bytes();
+    let len = out.len();
+    if len <= bytes.len() {
+        out.copy_from_slice(&bytes[bytes.len() - len..]);
+    } else {
+        put_bytewise(out, value);
+    }
 }

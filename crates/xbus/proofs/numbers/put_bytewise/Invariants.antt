@@ -1,5 +1,5 @@
 use Rattle.xbus.proofs.Widths.{Written}
-use Rattle.xbus.proofs.numbers.put_number.Given as goal
+use Rattle.xbus.proofs.numbers.put_bytewise.Given as goal
 
 -- the bytes in front of `byte` are there, and the others are still to come
 abbrev pub invariant-loop-byte : goal.invariant-loop-byte
