@@ -1,5 +1,5 @@
 -- The calls, way by way: what holds of each way through a call holds of the call.
-use Rattle.std.proofs.Common.{◌≡◌, ℕ, Bool, true, false, ltb, List, [], ◌∷◌, map, take, is_some, Some, None, Option, Result, sym, refl, ap, ◌∙◌, subst, subst₂, ⊎_elim}
+use Rattle.std.proofs.Common.{◌≡◌, ℕ, Bool, true, false, ltb, List, [], ◌∷◌, map, take, is_some, Some, None, Ok, Option, Result, sym, refl, ap, ◌∙◌, subst, subst₂, ⊎_elim}
 use Rattle.std.proofs.lemmas.Bool.{cases_Bool, cond_both}
 use Rattle.xbus.specs.declared.front.Front.TheVariants.{Whole}
 use Rattle.xbus.specs.Front.{front_of}
@@ -66,6 +66,23 @@ module _ (m : Model) (n : ℕ) where
       (λ (e : is_whole w ≡ false). subst Q (sym (parts_none w e)) (waits d e))
       (cases_Bool (is_whole w))))
       (λ _. ref refusal.Dark)
+
+-- a feed that serves nothing leaves no whole frame waiting
+
+abbrev Left : Called Fed → Type 0
+Left c = (f : Fed) → c.2 ≡ Ok f → f.served ≡ false → is_whole c.0.waiting ≡ false
+
+none_left : (m : Model) (n : ℕ) (bs : List ℕ) → Left (feed_call m bs n)
+none_left m n bs =
+    feed_by_lem m n bs Left
+    (λ e f p q. cc)
+    (λ d e f p q. e)
+    (λ k d e f p q. cc)
+
+pub fed_left : (m : Model) (bs : List ℕ) (n : ℕ) (o : List ℕ) (f : Fed) → Fair m (Feed bs n o (Ok f)) → f.served ≡ false
+    → is_whole (next m (Feed bs n o (Ok f))).waiting ≡ false
+unfolding next
+fed_left m bs n o f (g, h) = none_left m n bs f (sym h)
 
 -- the way that a call went: the unit behind it, what it wrote, its events on the tape, whether it served, the bytes that it
 -- took, and what it is for the moments

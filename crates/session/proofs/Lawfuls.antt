@@ -1,14 +1,17 @@
 -- The laws, for every session, and for every session with one more call behind it.
-use Rattle.std.proofs.Common.{◌≡◌, ℕ, List, [], ◌∷◌, ◌++◌, map, length, None, sym, refl, ap, ◌∙◌, subst, arith}
+use Rattle.std.proofs.Common.{◌≡◌, ℕ, List, [], ◌∷◌, ◌++◌, map, length, false, None, Ok, sym, refl, ap, ◌∙◌, subst, arith}
 use Rattle.std.specs.List.{AllByRecursion}
 use Rattle.stream.specs.Reading.{frame, read_of}
 use Rattle.stream.proofs.Readings.{frames_are_read}
 use Rattle.xbus.specs.Parts.{Parts}
+use Rattle.session.specs.declared.answers.Fed.{Fed}
+use Rattle.session.specs.Filling.{is_whole}
 use Rattle.session.specs.Model.{Kept, Model, World, making}
-use Rattle.session.specs.Sessions.{Entry, Fair, next, Session, written, bytes_taken}
+use Rattle.session.specs.Sessions.{Entry, Feed, Fair, next, Session, written, bytes_taken}
 use Rattle.session.specs.Moments.{Moment, serves, frames_of, frames_in, left_in, moments_from, moments}
 use Rattle.session.specs.Counting.{last_image}
 use Rattle.session.specs.Laws.{Linked, Done, Replied, Lawful, Begins, Extended}
+use Rattle.session.proofs.Calls.{fed_left}
 use Rattle.session.proofs.Readings.{Read, reads_quiet}
 use Rattle.session.proofs.Happens.{Happens}
 use Rattle.session.proofs.Replying.{happens_replied}
@@ -60,6 +63,18 @@ module _ (w : World) (es : List Entry) (k : Model) where
   unfolding making
   store_told = refl
 
+-- the last call of a session began at a unit, and led to its end
+last_call : (ds : List Entry) (m k : Model) (e : Entry) → Session m (ds ++ (e ∷ [])) k → (x : Model) × Fair x e × (next x e ≡ k)
+unfolding Session
+last_call [] m k e (f, s) = (m, f, s)
+last_call (d ∷ ds) m k e (f, s) = last_call ds (next m d) k e s
+
+quiet_feed : (ds : List Entry) (m k : Model) (bs : List ℕ) (n : ℕ) (o : List ℕ) (f : Fed) → Session m (ds ++ (Feed bs n o (Ok f) ∷ [])) k
+    → f.served ≡ false → is_whole k.waiting ≡ false
+quiet_feed ds m k bs n o f s q =
+    let l = last_call ds m k (Feed bs n o (Ok f)) s in
+    subst (λ (x : Model). is_whole x.waiting ≡ false) l.2 (fed_left l.0 bs n o f l.1 q)
+
 pub lawful : (w : World) (es : List Entry) (k : Model) → Session (making w) es k → Lawful w es k
 unfolding moments
 lawful w es k s =
@@ -78,6 +93,7 @@ lawful w es k s =
           let r = reads_quiet k.waiting q t.inv.settled in
           let z : length (frames_in k.waiting) ≡ 0 = ap (λ (x : Read). length x.0) r in
           (omega (arith, t.many), l ∙ ap (λ (x : Read). x.1) r);
+      served_at_once = λ ds bs n o f e q. quiet_feed ds (making w) k bs n o f (subst (λ (x : List Entry). Session (making w) x k) e s) q;
       linked = t.linked;
       outputs = t.wrote;
       done = all_of (Happens w) (Done w) (λ m h. h.done) ms t.each;

@@ -14,7 +14,8 @@ use Rattle.sensor.specs.Questions.{count_of}
 use Rattle.decision.specs.declared.states.State.{State}
 use Rattle.decision.specs.declared.states.State.TheVariants.{WakeUp, Config, Measurement}
 use Rattle.settings.specs.declared.record.Entry.{Entry}
-use Rattle.session.specs.Model.{Meaning, Counts, Core, World}
+use Rattle.session.specs.declared.counts.Counts.{Counts}
+use Rattle.session.specs.Model.{Meaning, Core, World}
 use Rattle.session.specs.Sampling.{due, reals_by, reals_from, whole_bytes, measured, data_of, data_by, packet_by, packets}
 use Rattle.session.specs.Serving.{served}
 use Rattle.session.specs.Ticking.{packets_by, packets_at, tick_by, tick}

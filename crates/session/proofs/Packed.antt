@@ -24,7 +24,8 @@ use Rattle.numbers.proofs.Bytes.{encoded_length, encoded_bytes}
 use Rattle.mtdata2.specs.Packets.{Item, item_of, packet_bytes, EachWellFormed}
 use Rattle.sensor.specs.Questions.{made_by_unit}
 use Rattle.settings.specs.declared.record.Entry.{Entry}
-use Rattle.session.specs.Model.{Meaning, Counts}
+use Rattle.session.specs.declared.counts.Counts.{Counts}
+use Rattle.session.specs.Model.{Meaning}
 use Rattle.session.specs.Sampling.{due, reals_by, reals_from, whole_bytes, measured, data_of, data_by, packet_by, packets}
 
 -- ---- what is said of the data, if there are any

@@ -18,7 +18,8 @@ use Rattle.numbers.specs.Encoding.{encoded, twos}
 use Rattle.mtdata2.specs.Packets.{Item, item_of}
 use Rattle.sensor.specs.Questions.{made_by_unit, count_of}
 use Rattle.settings.specs.declared.record.Entry.{Entry}
-use Rattle.session.specs.Model.{Meaning, Counts}
+use Rattle.session.specs.declared.counts.Counts.{Counts}
+use Rattle.session.specs.Model.{Meaning}
 use Rattle.session.specs.Sampling.{due, reals_by, reals_from, whole_bytes, measured, data_of, data_by, packet_by, packets}
 use Rattle.session.specs.Ticking.{ticked, sent_by}
 use Rattle.session.specs.Sampled.{interval, Due, Present, Data, counter, fine_time, coarse_time, status_byte, reals, whole, Absent, no_status, no_number, Gives, ends, rests, unknown, omits, sends, ticked_by, messages, Advanced, Within, SampledSaid}
@@ -55,7 +56,7 @@ due_slowest phase e f h = (
 -- ---- the data of an output
 
 -- the lowest bytes are those of what is left modulo their range
-low_bytes : (k n : ℕ) → be k (n % 256 ^ k) ≡ be k n
+pub low_bytes : (k n : ℕ) → be k (n % 256 ^ k) ≡ be k n
 low_bytes k n =
     ap (λ (x : ℕ). be k x) (sym (inverse.number_back k n))
     ∙ ap (λ (x : ℕ). be x (number_of (be k n))) (sym (length_be k n)) ∙ inverse.bytes_back (be k n) (be_bytes k n)

@@ -1,5 +1,5 @@
 -- What holds of every session.
-use Rattle.std.specs.Prelude.{◌≡◌, ℕ, ◌+◌, ◌%◌, ◌^◌, ◌<◌, Bool, true, false, ◌||◌, ◌⊎◌, List, [], ◌∷◌, ◌++◌, map, length, drop}
+use Rattle.std.specs.Prelude.{◌≡◌, ℕ, ◌+◌, ◌%◌, ◌^◌, ◌<◌, Bool, true, false, ◌||◌, ◌⊎◌, List, [], ◌∷◌, ◌++◌, map, length, drop, Ok}
 use Rattle.std.specs.List.{flat_map, AllByRecursion}
 use Rattle.mti.specs.declared.channel.Channel.{Channel}
 use Rattle.mti.specs.Table.{Row}
@@ -7,13 +7,14 @@ use Rattle.xbus.specs.Parts.{Parts}
 use Rattle.xbus.specs.Frames.{encoded}
 use Rattle.sensor.specs.Questions.{count_of}
 use Rattle.stream.specs.Reading.{frame, read_of}
+use Rattle.session.specs.declared.answers.Fed.{Fed}
 use Rattle.session.specs.Model.{Core, Model, World, Meaning, making, end_of}
 use Rattle.session.specs.Sending.{wake_up}
 use Rattle.session.specs.Waking.{woken}
 use Rattle.session.specs.Serving.{served}
 use Rattle.session.specs.Ticking.{tick}
 use Rattle.session.specs.Filling.{is_whole}
-use Rattle.session.specs.Sessions.{Entry, Fair, next, Session, written, bytes_taken, tape, frames_served}
+use Rattle.session.specs.Sessions.{Entry, Feed, Fair, next, Session, written, bytes_taken, tape, frames_served}
 use Rattle.session.specs.Moments.{Happening, powers, serves, ticks, Moment, frames_in, left_in, moments}
 use Rattle.session.specs.Counting.{acknowledged, is_power, is_served, is_request, is_reset, is_wake_up, is_passage, is_sample, is_stored, count, last_image}
 
@@ -80,6 +81,9 @@ pub record Lawful (w : World) (es : List Entry) (k : Model) : Type 0 where
   pub left : left_in (bytes_taken es) ≡ left_in k.waiting
   -- so all are served when none waits
   pub all_served : is_whole k.waiting ≡ false → (frames_served es ≡ length (frames_in (bytes_taken es))) × (left_in (bytes_taken es) ≡ k.waiting)
+  -- and none waits right after a feed that served none
+  pub served_at_once : (ds : List Entry) (bs : List ℕ) (n : ℕ) (o : List ℕ) (f : Fed) → es ≡ ds ++ (Feed bs n o (Ok f) ∷ [])
+      → f.served ≡ false → is_whole k.waiting ≡ false
   -- the moments are all that happened: they lead from the making to k, and what they wrote is the output
   pub linked : Linked (making w).core (moments w es) k.core
   pub outputs : flat_map (λ m. m.wrote) (moments w es) ≡ written es

@@ -12,4 +12,6 @@ pub mod Sessions
 pub mod Moments
 pub mod Counting
 pub mod Laws
+pub mod Deeds
+pub mod Examples
 pub mod Worked

@@ -4,6 +4,7 @@ use Rattle.mti.specs.declared.product.Product.{Product}
 use Rattle.decision.specs.declared.states.State.{State}
 use Rattle.settings.specs.Values.{Values}
 use Rattle.settings.specs.Factory.{factory_of}
+use Rattle.session.specs.declared.counts.Counts.{Counts}
 
 -- for each channel, index and tick number a reading or none
 abbrev pub Meaning : Type 0
@@ -13,17 +14,6 @@ Meaning = ℕ → ℕ → ℕ → Option ℤ
 pub record Kept : Type 0 where
   pub held : Option (List ℕ)
   pub left : ℕ
-
--- the five counts of a unit
-pub record Counts : Type 0 where
-  -- ticks in WakeUp
-  pub wake_ticks : ℕ
-  -- data messages sent since power or Reset, modulo 65,536
-  pub sent : ℕ
-  -- in Measurement: the tick number, modulo 2^32, the ticks of the second, modulo 2000, and the seconds, modulo 2^32
-  pub number : ℕ
-  pub phase : ℕ
-  pub seconds : ℕ
 
 -- what a unit serves and ticks with; its state is none while it is dark
 pub record Core : Type 0 where

@@ -10,7 +10,8 @@ use Rattle.numbers.specs.Encoding.{encoded, twos}
 use Rattle.mtdata2.specs.Packets.{Item, item_of}
 use Rattle.sensor.specs.Questions.{made_by_unit, count_of}
 use Rattle.settings.specs.declared.record.Entry.{Entry}
-use Rattle.session.specs.Model.{Meaning, Counts}
+use Rattle.session.specs.declared.counts.Counts.{Counts}
+use Rattle.session.specs.Model.{Meaning}
 use Rattle.session.specs.Sampling.{due, data_of, packets}
 use Rattle.session.specs.Ticking.{ticked}
 

@@ -10,7 +10,8 @@ use Rattle.mti.specs.Identifiers.{known_of}
 use Rattle.numbers.specs.Encoding.{encoded, twos}
 use Rattle.mtdata2.specs.Packets.{Item, item_of}
 use Rattle.settings.specs.declared.record.Entry.{Entry}
-use Rattle.session.specs.Model.{Meaning, Counts}
+use Rattle.session.specs.declared.counts.Counts.{Counts}
+use Rattle.session.specs.Model.{Meaning}
 
 -- an entry is due at each phase that its interval divides
 abbrev pub due : ℕ → Entry → Bool

@@ -9,7 +9,8 @@ use Rattle.settings.specs.Values.{Values}
 use Rattle.settings.specs.Image.{image_of}
 use Rattle.config.specs.Changed.{changed_of}
 use Rattle.config.specs.Answered.{answer_of, output_bytes}
-use Rattle.session.specs.Model.{Counts, Core, Kept}
+use Rattle.session.specs.declared.counts.Counts.{Counts}
+use Rattle.session.specs.Model.{Core, Kept}
 use Rattle.session.specs.Sending.{reply, error, save_error, wake_up, configuration}
 use Rattle.session.specs.Waking.{woken}
 

@@ -5,7 +5,8 @@ use Rattle.draft.specs.Composed.{frame_so_far}
 use Rattle.decision.specs.declared.states.State.{State}
 use Rattle.decision.specs.declared.states.State.TheVariants.{WakeUp, Config, Measurement}
 use Rattle.settings.specs.Values.{Values}
-use Rattle.session.specs.Model.{Meaning, Counts, Core}
+use Rattle.session.specs.declared.counts.Counts.{Counts}
+use Rattle.session.specs.Model.{Meaning, Core}
 use Rattle.session.specs.Sending.{configuration}
 use Rattle.session.specs.Serving.{Step, with_state, with_counts, measuring}
 use Rattle.session.specs.Sampling.{packets}

@@ -2,7 +2,9 @@
 #![tactic(auto)]
 
 mod answers;
+mod counts;
 mod laws;
 
 pub use answers::{Fed, Refusal};
+pub use counts::Counts;
 pub use laws::{cases_stand, samples_stand, sessions_stand};
