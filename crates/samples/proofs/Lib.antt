@@ -1,0 +1,6 @@
+pub mod Readings
+pub mod Outputs
+pub mod Weights
+pub mod Bounds
+pub mod Adds
+pub mod Walks
