@@ -1,7 +1,6 @@
 // A data message composed of packets that a line writes as IDENTIFIER:BYTES, and read back.
-use crate::fault::{LineError, Misread};
 use crate::message::print_message;
-use crate::recording::print_bytes;
+use commands::{LineError, Misread, identifier_of, print_bytes};
 use draft::{Draft, Record, Refusal};
 use lines::{byte_of, words_in};
 use std::alloc::Global;
@@ -28,10 +27,8 @@ fn read_packet(heap: Global, word: &[u8]) -> Result<Packet, LineError> {
     let [a, b, c, d, b':', digits @ ..] = word else {
         return Err(Misread::NotAPacket.into());
     };
-    let high = byte_of(&[*a, *b]).ok_or(Misread::NotAPacket)?;
-    let low = byte_of(&[*c, *d]).ok_or(Misread::NotAPacket)?;
     Ok(Packet {
-        identifier: u16::from_be_bytes([high, low]),
+        identifier: identifier_of(&[*a, *b, *c, *d]).ok_or(Misread::NotAPacket)?,
         content: read_pairs(heap, digits)?,
     })
 }

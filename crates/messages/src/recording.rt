@@ -1,14 +1,6 @@
 // A recording: its frames, the bytes dropped and what is left.
-use lines::push_bytes;
+use commands::print_bytes;
 use stream::{Piece, read_recording};
-
-// A word and the bytes behind it.
-pub fn print_bytes(rt: &HostRuntime, word: &str, bytes: &[u8]) -> anyhow::Result<()> {
-    let mut line = String::from_str(rt.alloc(), word)?;
-    push_bytes(&mut line, bytes)?;
-    rt.println(line.as_str())?;
-    Ok(())
-}
 
 // Prints the pieces of a recording in order, and then how much there was of each.
 pub fn print_recording(rt: &HostRuntime, recording: &[u8]) -> anyhow::Result<()> {

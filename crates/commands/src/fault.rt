@@ -1,6 +1,6 @@
 // Why a line is not answered.
 use lines::LineFault;
-use std::alloc::AllocFailed;
+use std::alloc::{AllocError, AllocFailed};
 use std::fmt;
 
 // Why a line is not understood.
@@ -11,6 +11,14 @@ pub enum Misread {
     NotAByte,
     NotAPacket,
     NotANumber,
+    NotAnIdentifier,
+    NotAProduct,
+    NotASensor,
+    NotAStore,
+    // a call where there is no unit
+    NoUnit,
+    PastTheMemory,
+    TooManyWords,
 }
 
 impl fmt::Display for Misread {
@@ -20,6 +28,13 @@ impl fmt::Display for Misread {
             Misread::NotAByte => "not a byte",
             Misread::NotAPacket => "not a packet",
             Misread::NotANumber => "not a number",
+            Misread::NotAnIdentifier => "not an identifier",
+            Misread::NotAProduct => "not a product",
+            Misread::NotASensor => "not a sensor",
+            Misread::NotAStore => "not a store",
+            Misread::NoUnit => "no unit",
+            Misread::PastTheMemory => "past the memory",
+            Misread::TooManyWords => "too many words",
         })
     }
 }
@@ -40,6 +55,12 @@ impl From<Misread> for LineError {
 impl From<anyhow::Error> for LineError {
     fn from(error: anyhow::Error) -> LineError {
         LineError::Failed(error)
+    }
+}
+
+impl From<AllocError> for LineError {
+    fn from(error: AllocError) -> LineError {
+        LineError::Failed(error.into())
     }
 }
 

@@ -1,0 +1,4 @@
+pub mod Both
+pub mod Calls
+pub mod Feeding
+pub mod Replayed

@@ -1,0 +1,37 @@
+// Feeds and ticks units, and prints a hash over what they wrote.
+#![tactic(auto)]
+
+mod driven;
+mod load;
+mod source;
+
+use commands::{LineError, Misread, answer_all, only_number};
+use lines::next_word;
+use load::Load;
+use std::process::ExitCode;
+
+// How much of a load is asked for.
+fn read_count(line: &[u8]) -> Result<u32, Misread> {
+    u32::try_from(only_number(line)?).map_err(|_| Misread::NotANumber)
+}
+
+// Drives a unit, and prints the hash over what it wrote.
+fn print_hash(rt: &HostRuntime, load: Load, count: u32) -> anyhow::Result<()> {
+    let hash = load.run(count);
+    println!(rt; "{load} {hash:016X}")?;
+    Ok(())
+}
+
+// Does what a line asks for.
+fn answer(rt: &HostRuntime, line: &[u8]) -> Result<(), LineError> {
+    let Some((command, rest)) = next_word(line) else {
+        return Ok(());
+    };
+    let load = Load::of(command).ok_or(Misread::UnknownCommand)?;
+    print_hash(rt, load, read_count(rest)?)?;
+    Ok(())
+}
+
+fn main(rt: HostRuntime) -> anyhow::Result<ExitCode> {
+    answer_all(&rt, |line| answer(&rt, line))
+}

@@ -1,0 +1,6 @@
+-- A reply is the first frame in the tray.
+use Rattle.std.proofs.Common.{[], refl}
+use Rattle.unit.proofs.sending.reply.Goals as goal
+
+pub returns : goal.returns
+returns c = c.send.ensures [] (record { count = refl; bytes = refl })

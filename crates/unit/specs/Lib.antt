@@ -1,0 +1,3 @@
+pub mod Of
+pub mod Steps
+pub mod Units
