@@ -1,11 +1,14 @@
-# make run      builds and runs the program `messages` on its sample input
+# make run      builds and runs the program `bench` on its sample input
 # make test     the gate: quick checks, then everything proved; ends in 'N passed, 0 failed'
 # make planted  tries every planted bug: the prover must refuse each
 # make reference  builds the independent implementation (target/reference)
+# make compare N=1000 SEED=1  plays N random sessions on both, and compares what they print
+# make embed    builds a C program over the static library, and compares it with bench
+# make speed    counts the instructions per tick and per byte of both
 
 RUSTC := $(shell command -v rustc 2>/dev/null || ls $(HOME)/.cargo/bin/rustc 2>/dev/null)
 
-.PHONY: run test quick planted reference tools
+.PHONY: run test quick planted reference tools compare speed embed
 
 test: quick
 	@scripts/proved
@@ -16,11 +19,25 @@ quick: tools reference
 	@scripts/must-not-compile
 
 run: tools
-	@(cd crates/messages && rt run <stdin) >target/run.log 2>&1 || { cat target/run.log; exit 1; }
-	@crates/messages/out/messages <crates/messages/stdin
+	@(cd crates/bench && rt run <stdin) >target/run.log 2>&1 || { cat target/run.log; exit 1; }
+	@crates/bench/out/bench <crates/bench/stdin
 
 planted: tools
 	@scripts/planted
+
+compare: tools reference
+	@(cd crates/sessions && rt run <stdin) >target/run.log 2>&1 || { tail -n 5 target/run.log; exit 1; }
+	@scripts/compare $(N) $(SEED)
+
+embed: tools
+	@mkdir -p target
+	@(cd crates/embed && rt lib) >target/lib.log 2>&1 || { tail -n 5 target/lib.log; exit 1; }
+	@(cd crates/bench && rt run <stdin) >target/run.log 2>&1 || { tail -n 5 target/run.log; exit 1; }
+	@scripts/embed
+
+speed: tools reference
+	@(cd crates/speed && rt run <stdin) >target/run.log 2>&1 || { tail -n 5 target/run.log; exit 1; }
+	@scripts/speed
 
 reference: target/reference
 

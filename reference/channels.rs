@@ -1,45 +1,99 @@
 //! The channel table, known identifiers and their data sizes (docs/DATA.md).
 
+use crate::product::Product;
+use crate::readings::Precision;
+
+/// The packet counter.
+pub const PACKET_COUNTER: u16 = 0x1020;
+/// The sample time in units of 0.1 ms.
+pub const SAMPLE_TIME_FINE: u16 = 0x1060;
+/// The sample time in seconds.
+pub const SAMPLE_TIME_COARSE: u16 = 0x1070;
+/// The low byte of the status word.
+pub const STATUS_BYTE: u16 = 0xE010;
+pub const STATUS_WORD: u16 = 0xE020;
+
 /// The data of a channel.
 #[derive(Debug, Clone, Copy, PartialEq, Eq)]
-enum Data {
+pub enum Data {
     /// So many real numbers.
     Real(usize),
     /// One unsigned whole number of so many bytes.
     Whole(usize),
 }
 
-/// A channel: its identifier, whose format digit is 0, and its data.
-struct Channel {
-    identifier: u16,
-    data: Data,
+impl Data {
+    /// The number of readings that the data are made of.
+    pub fn readings(self) -> usize {
+        match self {
+            Data::Real(count) => count,
+            Data::Whole(_) => 1,
+        }
+    }
 }
 
-const fn channel(identifier: u16, data: Data) -> Channel {
-    Channel { identifier, data }
+/// The products that have a channel.
+#[derive(Debug, Clone, Copy, PartialEq, Eq)]
+enum Found {
+    OnAll,
+    OnMti300AndMtiG710,
+    OnMtiG710,
 }
 
-const CHANNELS: [Channel; 19] = [
-    channel(0x0810, Data::Real(1)),  // temperature
-    channel(0x1020, Data::Whole(2)), // packet counter
-    channel(0x1060, Data::Whole(4)), // sample time, fine
-    channel(0x1070, Data::Whole(4)), // sample time, coarse
-    channel(0x2010, Data::Real(4)),  // quaternion
-    channel(0x2020, Data::Real(9)),  // rotation matrix
-    channel(0x2030, Data::Real(3)),  // Euler angles
-    channel(0x3010, Data::Whole(4)), // pressure
-    channel(0x4010, Data::Real(3)),  // velocity increment
-    channel(0x4020, Data::Real(3)),  // acceleration
-    channel(0x4030, Data::Real(3)),  // free acceleration
-    channel(0x5020, Data::Real(1)),  // altitude
-    channel(0x5040, Data::Real(2)),  // latitude and longitude
-    channel(0x8020, Data::Real(3)),  // rate of turn
-    channel(0x8030, Data::Real(4)),  // orientation increment
-    channel(0xC020, Data::Real(3)),  // magnetic field
-    channel(0xD010, Data::Real(3)),  // velocity
-    channel(0xE010, Data::Whole(1)), // status byte
-    channel(0xE020, Data::Whole(4)), // status word
-];
+/// A channel: its identifier, whose format digit is 0, its data, the highest frequency at
+/// which it is sent, and the products that have it.
+#[derive(Debug, PartialEq, Eq)]
+pub struct Channel {
+    pub identifier: u16,
+    pub data: Data,
+    pub most_hz: u16,
+    found: Found,
+}
+
+impl Channel {
+    pub fn is_on(&self, product: Product) -> bool {
+        match self.found {
+            Found::OnAll => true,
+            Found::OnMti300AndMtiG710 => matches!(product, Product::Mti300 | Product::MtiG710),
+            Found::OnMtiG710 => product == Product::MtiG710,
+        }
+    }
+}
+
+const fn channel(identifier: u16, data: Data, most_hz: u16, found: Found) -> Channel {
+    Channel {
+        identifier,
+        data,
+        most_hz,
+        found,
+    }
+}
+
+pub static CHANNELS: [Channel; 19] = {
+    use Data::{Real, Whole};
+    use Found::{OnAll, OnMti300AndMtiG710, OnMtiG710};
+    [
+        channel(0x0810, Real(1), 1, OnAll), // temperature
+        channel(PACKET_COUNTER, Whole(2), 2000, OnAll),
+        channel(SAMPLE_TIME_FINE, Whole(4), 2000, OnAll),
+        channel(SAMPLE_TIME_COARSE, Whole(4), 2000, OnAll),
+        channel(0x2010, Real(4), 400, OnAll), // quaternion
+        channel(0x2020, Real(9), 400, OnAll), // rotation matrix
+        channel(0x2030, Real(3), 400, OnAll), // Euler angles
+        channel(0x3010, Whole(4), 50, OnMti300AndMtiG710), // pressure
+        channel(0x4010, Real(3), 2000, OnAll), // velocity increment
+        channel(0x4020, Real(3), 2000, OnAll), // acceleration
+        channel(0x4030, Real(3), 2000, OnAll), // free acceleration
+        channel(0x5020, Real(1), 400, OnMtiG710), // altitude
+        channel(0x5040, Real(2), 400, OnMtiG710), // latitude and longitude
+        channel(0x8020, Real(3), 2000, OnAll), // rate of turn
+        channel(0x8030, Real(4), 2000, OnAll), // orientation increment
+        channel(0xC020, Real(3), 100, OnAll), // magnetic field
+        channel(0xD010, Real(3), 400, OnMtiG710), // velocity
+        channel(STATUS_BYTE, Whole(1), 2000, OnAll),
+        channel(STATUS_WORD, Whole(4), 2000, OnAll),
+    ]
+};
 
 /// What a known identifier says of its packet, with the data size in bytes.
 #[derive(Debug, Clone, Copy, PartialEq, Eq)]
@@ -56,32 +110,43 @@ impl Known {
     }
 }
 
-/// The bytes of one real in the precision of this format digit.
-fn bytes_of_a_real(format_digit: u16) -> Option<usize> {
-    match format_digit {
-        0 => Some(4), // IEEE 754 single
-        1 => Some(4), // fixed point 12.20
-        2 => Some(6), // fixed point 16.32
-        3 => Some(8), // IEEE 754 double
-        _ => None,
-    }
+/// The form in which a packet sends its channel's data.
+#[derive(Debug, Clone, Copy, PartialEq, Eq)]
+pub enum Form {
+    /// Real numbers in a precision.
+    Real(Precision),
+    /// One whole number of so many bytes.
+    Whole(usize),
+}
+
+/// The channel of a known identifier, and the form of its data.
+pub fn channel_and_form(identifier: u16) -> Option<(&'static Channel, Form)> {
+    let channel = channel_of(identifier & 0xFFF0)?;
+    let precision = Precision::of_format_digit(identifier & 0x000F)?;
+    let form = match channel.data {
+        Data::Real(_) => Form::Real(precision),
+        // Whole channels take precision 0 alone.
+        Data::Whole(size) => (precision == Precision::Single).then_some(Form::Whole(size))?,
+    };
+    Some((channel, form))
+}
+
+/// The channel with this identifier.
+pub fn channel_of(identifier: u16) -> Option<&'static Channel> {
+    CHANNELS
+        .iter()
+        .find(|channel| channel.identifier == identifier)
 }
 
 /// What the identifier of a packet says, if it is known.
 pub fn known(identifier: u16) -> Option<Known> {
-    let format_digit = identifier & 0x000F;
-    let channel_identifier = identifier & 0xFFF0;
-    let channel = CHANNELS
-        .iter()
-        .find(|channel| channel.identifier == channel_identifier)?;
-    match channel.data {
-        Data::Real(count) => {
-            let size = count * bytes_of_a_real(format_digit)?;
-            Some(Known::Real { size })
-        }
-        Data::Whole(size) if format_digit == 0 => Some(Known::Whole { size }),
-        Data::Whole(_) => None,
-    }
+    let (channel, form) = channel_and_form(identifier)?;
+    Some(match form {
+        Form::Real(precision) => Known::Real {
+            size: channel.data.readings() * precision.bytes(),
+        },
+        Form::Whole(size) => Known::Whole { size },
+    })
 }
 
 #[cfg(test)]
@@ -122,6 +187,14 @@ mod tests {
     fn sizes_of_wholes() {
         for (identifier, size) in [(0x1020, 2), (0x1060, 4), (0x3010, 4), (0xE010, 1)] {
             assert_eq!(known(identifier), Some(Known::Whole { size }));
+        }
+    }
+
+    #[test]
+    fn numbers_of_channels_of_the_products() {
+        for (product, count) in Product::ALL.into_iter().zip([15, 15, 16, 19]) {
+            let on_product = CHANNELS.iter().filter(|channel| channel.is_on(product));
+            assert_eq!(on_product.count(), count);
         }
     }
 

@@ -9,8 +9,10 @@ pub const EXTENDED: u8 = 0xFF;
 pub const SHORTEST_EXTENDED: u16 = 255;
 /// The most data bytes of a frame.
 pub const LONGEST_DATA: u16 = 2048;
-/// Where the length begins: behind `FA`, address and identifier.
-const LENGTH_PLACE: usize = 3;
+/// The bytes of the shortest frame.
+const SHORTEST_FRAME: usize = 5;
+/// The bytes of the longest frame.
+pub const LONGEST_FRAME: usize = 2055;
 
 /// What stands at the front of a list of bytes.
 #[derive(Debug, Clone, Copy, PartialEq, Eq)]
@@ -31,41 +33,28 @@ pub enum Piece<'a> {
     Left(&'a [u8]),
 }
 
-/// The length of a frame's data as the frame says it.
-enum Length {
-    Standard([u8; 1]),
-    Extended([u8; 3]),
+/// A frame, taken apart.
+#[derive(Debug, Clone, Copy, PartialEq, Eq)]
+pub struct Message<'a> {
+    pub address: u8,
+    pub identifier: u8,
+    pub data: &'a [u8],
 }
 
-impl Length {
-    /// The one form in which a frame of so many data bytes is sent.
-    fn of(count: u16) -> Length {
-        let [high, low] = count.to_be_bytes();
-        if count < SHORTEST_EXTENDED {
-            Length::Standard([low])
-        } else {
-            Length::Extended([EXTENDED, high, low])
-        }
+impl Message<'_> {
+    /// The message in a list of bytes that is a whole frame, with nothing behind it.
+    pub fn in_frame(frame: &[u8]) -> Option<Message<'_>> {
+        let (address, identifier, data) = match frame {
+            [_, address, identifier, EXTENDED, _, _, data @ .., _] => (address, identifier, data),
+            [_, address, identifier, _, data @ .., _] => (address, identifier, data),
+            _ => return None,
+        };
+        Some(Message {
+            address: *address,
+            identifier: *identifier,
+            data,
+        })
     }
-
-    fn bytes(&self) -> &[u8] {
-        match self {
-            Length::Standard(bytes) => bytes,
-            Length::Extended(bytes) => bytes,
-        }
-    }
-}
-
-/// The number of bytes of a frame of so many data bytes: header, data and checksum.
-fn frame_size(count: u16) -> usize {
-    LENGTH_PLACE + Length::of(count).bytes().len() + usize::from(count) + 1
-}
-
-/// Whether a list says, as far as it goes, that so many data bytes follow.
-fn agrees(bytes: &[u8], count: u16) -> bool {
-    let said = bytes.iter().skip(LENGTH_PLACE);
-    said.zip(Length::of(count).bytes())
-        .all(|(said, expected)| said == expected)
 }
 
 /// The sum of the bytes after `FA`, modulo 256.
@@ -81,39 +70,108 @@ pub fn checksum_is_right(frame: &[u8]) -> bool {
     sum_behind_start(frame) == 0
 }
 
+/// The header of a frame with so many data bytes: the bytes in front of them, in a buffer
+/// that has room for both forms, and their number.
+fn header_of(address: u8, identifier: u8, count: u16) -> ([u8; 6], usize) {
+    let [high, low] = count.to_be_bytes();
+    if count < SHORTEST_EXTENDED {
+        ([START, address, identifier, low, 0, 0], 4)
+    } else {
+        ([START, address, identifier, EXTENDED, high, low], 6)
+    }
+}
+
+/// Why a frame is not written.
+#[derive(Debug, Clone, Copy, PartialEq, Eq)]
+pub enum NotWritten {
+    TooLong,
+    NoRoom,
+}
+
+/// Writes the frame with these data to the tray from a place on, and answers its length. A
+/// refusal leaves every byte of the tray.
+pub fn write_to(tray: &mut [u8], place: usize, message: Message) -> Result<usize, NotWritten> {
+    let count = u16::try_from(message.data.len())
+        .ok()
+        .filter(|&count| count <= LONGEST_DATA)
+        .ok_or(NotWritten::TooLong)?;
+    let (header, header_size) = header_of(message.address, message.identifier, count);
+    let size = header_size + message.data.len() + 1;
+    let frame = tray
+        .get_mut(place..)
+        .and_then(|room| room.get_mut(..size))
+        .ok_or(NotWritten::NoRoom)?;
+    let (head, body) = frame.split_at_mut(header_size);
+    let (data, checksum) = body.split_at_mut(message.data.len());
+    head.copy_from_slice(&header[..header_size]);
+    data.copy_from_slice(message.data);
+    checksum.fill(0);
+    let sum = sum_behind_start(frame);
+    if let Some(checksum) = frame.last_mut() {
+        *checksum = sum.wrapping_neg();
+    }
+    Ok(size)
+}
+
 /// The frame with these data, or nothing if they are too long.
 pub fn write(address: u8, identifier: u8, data: &[u8]) -> Option<Vec<u8>> {
-    let count = u16::try_from(data.len())
-        .ok()
-        .filter(|&count| count <= LONGEST_DATA)?;
-    let mut frame = vec![START, address, identifier];
-    frame.extend(Length::of(count).bytes());
-    frame.extend(data);
-    frame.push(sum_behind_start(&frame).wrapping_neg());
+    let mut frame = vec![0; data.len().min(usize::from(LONGEST_DATA)) + 7];
+    let message = Message {
+        address,
+        identifier,
+        data,
+    };
+    let size = write_to(&mut frame, 0, message).ok()?;
+    frame.truncate(size);
     Some(frame)
 }
 
-/// What stands at the front of a list of bytes.
-///
-/// A list is (a start of) a frame only if there is a number of data bytes with which its
-/// length agrees. A list that is shorter than that frame is a proper start of one: address,
-/// identifier and data are free, and the checksum, which is still to come, makes it right.
-/// A list that has all its bytes has its whole length too, so no other number agrees, and
-/// the checksum decides.
-pub fn front(bytes: &[u8]) -> Front {
-    match bytes.first() {
-        None => return Front::Waits,
-        Some(&first) if first != START => return Front::Wrong,
-        Some(_) => {}
+/// What the bytes at the front of a list say of the frame that may begin there.
+#[derive(Debug, Clone, Copy, PartialEq, Eq)]
+enum Announced {
+    /// Too little to tell its length; the next byte says more.
+    NotYet,
+    /// It would have so many bytes.
+    Frame(usize),
+    /// None begins there.
+    Nothing,
+}
+
+fn announced(bytes: &[u8]) -> Announced {
+    match *bytes {
+        [] => Announced::NotYet,
+        [first, ..] if first != START => Announced::Nothing,
+        [_, _, _, EXTENDED, high, low, ..] => match u16::from_be_bytes([high, low]) {
+            count @ SHORTEST_EXTENDED..=LONGEST_DATA => Announced::Frame(usize::from(count) + 7),
+            _ => Announced::Nothing,
+        },
+        // With some second byte the length is right exactly if the first is 00 to 08.
+        [_, _, _, EXTENDED, high] if high > 8 => Announced::Nothing,
+        [_, _, _, EXTENDED, ..] => Announced::NotYet,
+        [_, _, _, count, ..] => Announced::Frame(usize::from(count) + 5),
+        _ => Announced::NotYet,
     }
-    let Some(count) = (0..=LONGEST_DATA).find(|&count| agrees(bytes, count)) else {
-        return Front::Wrong;
-    };
-    let size = frame_size(count);
-    match bytes.get(..size) {
-        None => Front::Waits,
-        Some(frame) if checksum_is_right(frame) => Front::Whole(size),
-        Some(_) => Front::Wrong,
+}
+
+/// What stands at the front of a list of bytes.
+pub fn front(bytes: &[u8]) -> Front {
+    match announced(bytes) {
+        Announced::NotYet => Front::Waits,
+        Announced::Nothing => Front::Wrong,
+        Announced::Frame(size) => match bytes.get(..size) {
+            None => Front::Waits,
+            Some(frame) if checksum_is_right(frame) => Front::Whole(size),
+            Some(_) => Front::Wrong,
+        },
+    }
+}
+
+/// How long a list that waits must be before what stands at its front can change.
+pub fn next_look(waiting: &[u8]) -> usize {
+    match announced(waiting) {
+        Announced::Frame(size) => size,
+        Announced::NotYet if waiting.is_empty() => 1,
+        Announced::NotYet | Announced::Nothing => SHORTEST_FRAME.max(waiting.len() + 1),
     }
 }
 
@@ -250,9 +308,90 @@ pub mod tests {
 
     #[test]
     fn sizes_of_frames() {
-        for (count, size) in [(0, 5), (254, 259), (255, 262), (2048, 2055)] {
-            assert_eq!(frame_size(count), size);
+        for (count, size) in [(0, 5), (254, 259), (255, 262), (2048, LONGEST_FRAME)] {
+            assert_eq!(
+                write(1, 2, &vec![3; count]).map(|frame| frame.len()),
+                Some(size)
+            );
         }
+    }
+
+    /// A list is a start of a frame exactly if some number of data bytes agrees with as much
+    /// of a length as it holds, and it is shorter than that frame: address, identifier, data
+    /// and checksum are free then.
+    fn front_by_definition(bytes: &[u8]) -> Front {
+        if bytes.first().is_some_and(|&first| first != START) {
+            return Front::Wrong;
+        }
+        for count in 0..=LONGEST_DATA {
+            let (header, header_size) = header_of(0, 0, count);
+            let length = &header[3..header_size];
+            let said = bytes.iter().skip(3);
+            if said.zip(length).all(|(said, right)| said == right) {
+                let size = header_size + usize::from(count) + 1;
+                return match bytes.get(..size) {
+                    None => Front::Waits,
+                    Some(frame) if checksum_is_right(frame) => Front::Whole(size),
+                    Some(_) => Front::Wrong,
+                };
+            }
+        }
+        Front::Wrong
+    }
+
+    #[test]
+    fn noise_agrees_with_the_definition() {
+        let mut noise = Noise::new(12);
+        for _ in 0..20_000 {
+            let mut bytes = vec![START];
+            let more = noise.number(12);
+            bytes.extend(noise.bytes(more));
+            assert_eq!(front(&bytes), front_by_definition(&bytes));
+        }
+    }
+
+    #[test]
+    fn nothing_changes_before_the_next_look() {
+        let mut noise = Noise::new(13);
+        for count in COUNTS {
+            let bytes = frame(noise.byte(), noise.byte(), &noise.bytes(count));
+            let mut look = next_look(&[]);
+            for end in 0..=bytes.len() {
+                if end == look && end < bytes.len() {
+                    look = next_look(&bytes[..end]);
+                }
+                assert!(end <= look && look <= bytes.len());
+            }
+        }
+    }
+
+    #[test]
+    fn frames_are_written_at_a_place_of_a_tray() {
+        for count in [0, 1, 254, 255, 2048] {
+            let data = vec![7; count];
+            let message = Message {
+                address: 1,
+                identifier: 2,
+                data: &data,
+            };
+            let expected = frame(1, 2, &data);
+            let size = expected.len();
+            let mut tray = vec![0x55; size + 5];
+            assert_eq!(write_to(&mut tray, 3, message), Ok(size));
+            assert_eq!(tray, [&[0x55; 3], &expected[..], &[0x55; 2]].concat());
+            assert_eq!(Message::in_frame(&expected), Some(message));
+            let mut tray = vec![0x55; size + 2];
+            for place in [3, size + 2, size + 3, usize::MAX] {
+                assert_eq!(write_to(&mut tray, place, message), Err(NotWritten::NoRoom));
+            }
+            assert_eq!(tray, vec![0x55; size + 2]);
+        }
+        let message = Message {
+            address: 1,
+            identifier: 2,
+            data: &[0; 2049],
+        };
+        assert_eq!(write_to(&mut [], 0, message), Err(NotWritten::TooLong));
     }
 
     #[test]

@@ -1,25 +1,58 @@
 //! What all programs have in common: lines of input, words, hexadecimal bytes and decimal
 //! numbers (docs/BENCH.md).
 
-use std::io::{self, BufRead, Write};
+use std::io::{self, BufRead, BufReader, Read, Write};
 
 /// Why a line is not understood.
 #[derive(Debug, Clone, Copy, PartialEq, Eq)]
 pub enum NotUnderstood {
     UnknownCommand,
+    NoUnit,
     NotAByte,
     NotAPacket,
     NotANumber,
+    NotAnIdentifier,
+    NotAProduct,
+    NotASensor,
+    NotAStore,
+    PastTheMemory,
+    TooManyWords,
 }
 
 impl NotUnderstood {
     fn why(self) -> &'static str {
         match self {
             NotUnderstood::UnknownCommand => "unknown command",
+            NotUnderstood::NoUnit => "no unit",
             NotUnderstood::NotAByte => "not a byte",
             NotUnderstood::NotAPacket => "not a packet",
             NotUnderstood::NotANumber => "not a number",
+            NotUnderstood::NotAnIdentifier => "not an identifier",
+            NotUnderstood::NotAProduct => "not a product",
+            NotUnderstood::NotASensor => "not a sensor",
+            NotUnderstood::NotAStore => "not a store",
+            NotUnderstood::PastTheMemory => "past the memory",
+            NotUnderstood::TooManyWords => "too many words",
         }
+    }
+}
+
+/// Why there is no answer to a line.
+#[derive(Debug)]
+pub enum Problem {
+    NotUnderstood(NotUnderstood),
+    Output(io::Error),
+}
+
+impl From<NotUnderstood> for Problem {
+    fn from(reason: NotUnderstood) -> Problem {
+        Problem::NotUnderstood(reason)
+    }
+}
+
+impl From<io::Error> for Problem {
+    fn from(error: io::Error) -> Problem {
+        Problem::Output(error)
     }
 }
 
@@ -30,33 +63,63 @@ pub enum Outcome {
     SomeNotUnderstood,
 }
 
-/// A program: from the command of a line and the words after it to the lines it prints.
-pub type Answer = fn(&[u8], &[&[u8]]) -> Result<String, NotUnderstood>;
+/// A program that answers lines.
+pub trait Program {
+    /// What is printed before the first line is read.
+    fn begin(&mut self, _output: &mut impl Write) -> io::Result<()> {
+        Ok(())
+    }
 
-/// Answers all lines of the input.
+    /// What is printed for a line: its first word, and the words after it.
+    fn answer(
+        &mut self,
+        command: &[u8],
+        words: Words,
+        output: &mut impl Write,
+    ) -> Result<(), Problem>;
+
+    /// What is printed behind the last line.
+    fn end(&mut self, _output: &mut impl Write) -> io::Result<()> {
+        Ok(())
+    }
+}
+
+/// Runs a program on all lines of the input. What it has printed goes out before it waits
+/// for input.
 pub fn answer_all(
-    input: &mut impl BufRead,
+    input: &mut BufReader<impl Read>,
     output: &mut impl Write,
     errors: &mut impl Write,
-    answer: Answer,
+    program: &mut impl Program,
 ) -> io::Result<Outcome> {
     let mut outcome = Outcome::AllUnderstood;
     let mut line = Vec::new();
     let mut number: u64 = 0;
-    while input.read_until(b'\n', &mut line)? > 0 {
-        number += 1;
-        if let Some((command, arguments)) = words(content(&line)).split_first() {
-            match answer(command, arguments) {
-                Ok(answer) => output.write_all(answer.as_bytes())?,
-                Err(reason) => {
-                    outcome = Outcome::SomeNotUnderstood;
-                    writeln!(errors, "line {number}: {}", reason.why())?;
-                }
-            }
+    program.begin(output)?;
+    loop {
+        if !input.buffer().contains(&b'\n') {
             output.flush()?;
         }
         line.clear();
+        if input.read_until(b'\n', &mut line)? == 0 {
+            break;
+        }
+        number += 1;
+        let mut words = Words::of(content(&line));
+        let Some(command) = words.next() else {
+            continue;
+        };
+        match program.answer(command, words, output) {
+            Ok(()) => {}
+            Err(Problem::NotUnderstood(reason)) => {
+                outcome = Outcome::SomeNotUnderstood;
+                writeln!(errors, "line {number}: {}", reason.why())?;
+            }
+            Err(Problem::Output(error)) => return Err(error),
+        }
     }
+    program.end(output)?;
+    output.flush()?;
     Ok(outcome)
 }
 
@@ -67,10 +130,60 @@ fn content(line: &[u8]) -> &[u8] {
 }
 
 /// The words of a line; spaces around them are no part of any.
-fn words(line: &[u8]) -> Vec<&[u8]> {
-    line.split(|&byte| byte == b' ')
-        .filter(|word| !word.is_empty())
-        .collect()
+#[derive(Debug, Clone)]
+pub struct Words<'a> {
+    rest: &'a [u8],
+}
+
+impl<'a> Words<'a> {
+    pub fn of(line: &'a [u8]) -> Words<'a> {
+        Words { rest: line }
+    }
+
+    /// The next word, or the empty one, which is no byte, number or name, if there is none.
+    /// So a missing word is named like a wrong one.
+    fn next_or_empty(&mut self) -> &'a [u8] {
+        self.next().unwrap_or_default()
+    }
+
+    /// The next word as what `read` takes it for.
+    pub fn read<T>(
+        &mut self,
+        read: impl FnOnce(&[u8]) -> Option<T>,
+        otherwise: NotUnderstood,
+    ) -> Result<T, NotUnderstood> {
+        read(self.next_or_empty()).ok_or(otherwise)
+    }
+
+    /// All words that are left as bytes, put in place of what the buffer holds.
+    pub fn bytes_into(&mut self, buffer: &mut Vec<u8>) -> Result<(), NotUnderstood> {
+        buffer.clear();
+        for word in self {
+            buffer.push(byte(word).ok_or(NotUnderstood::NotAByte)?);
+        }
+        Ok(())
+    }
+
+    /// Asks that no word is left.
+    pub fn end(&mut self) -> Result<(), NotUnderstood> {
+        match self.next() {
+            None => Ok(()),
+            Some(_) => Err(NotUnderstood::TooManyWords),
+        }
+    }
+}
+
+impl<'a> Iterator for Words<'a> {
+    type Item = &'a [u8];
+
+    fn next(&mut self) -> Option<&'a [u8]> {
+        let spaces = self.rest.iter().take_while(|&&byte| byte == b' ').count();
+        let rest = self.rest.get(spaces..)?;
+        let size = rest.iter().take_while(|&&byte| byte != b' ').count();
+        let (word, rest) = rest.split_at(size);
+        self.rest = rest;
+        (!word.is_empty()).then_some(word)
+    }
 }
 
 /// The bytes that the words are, one pair of hexadecimal digits each.
@@ -115,6 +228,29 @@ pub fn decimal(word: &[u8]) -> Option<u64> {
     })
 }
 
+/// The number below 2^32 that a word of decimal digits is.
+pub fn decimal_32(word: &[u8]) -> Option<u32> {
+    decimal(word).and_then(|number| u32::try_from(number).ok())
+}
+
+/// The number up to `most` that a word of decimal digits is.
+pub fn decimal_up_to(word: &[u8], most: usize) -> Option<usize> {
+    let number = usize::try_from(decimal(word)?).ok()?;
+    (number <= most).then_some(number)
+}
+
+/// The bytes that a word of exactly so many pairs of hexadecimal digits is.
+pub fn bytes_of_pairs<const N: usize>(word: &[u8]) -> Option<[u8; N]> {
+    let mut bytes = [0; N];
+    if word.len() != 2 * N {
+        return None;
+    }
+    for (place, pair) in bytes.iter_mut().zip(word.chunks(2)) {
+        *place = byte(pair)?;
+    }
+    Some(bytes)
+}
+
 /// The number that a word of decimal digits is, with a minus sign in front or without. The
 /// digits stand for a number below 2^63.
 pub fn signed_decimal(word: &[u8]) -> Option<i64> {
@@ -140,14 +276,30 @@ pub fn spaced_hex(bytes: &[u8]) -> String {
     text
 }
 
-fn pair(byte: u8) -> [char; 2] {
-    [byte >> 4, byte & 0x0F].map(digit_character)
+/// Prints the bytes as upper-case pairs, each with one space in front.
+pub fn print_spaced_hex(output: &mut impl Write, bytes: &[u8]) -> io::Result<()> {
+    const AT_ONCE: usize = 64;
+    let mut text = [b' '; 3 * AT_ONCE];
+    for some in bytes.chunks(AT_ONCE) {
+        for (place, &byte) in text.chunks_exact_mut(3).zip(some) {
+            if let [_, high, low] = place {
+                *high = digit_byte(byte >> 4);
+                *low = digit_byte(byte & 0x0F);
+            }
+        }
+        output.write_all(&text[..3 * some.len()])?;
+    }
+    Ok(())
 }
 
-fn digit_character(value: u8) -> char {
+fn pair(byte: u8) -> [char; 2] {
+    [byte >> 4, byte & 0x0F].map(|value| char::from(digit_byte(value)))
+}
+
+fn digit_byte(value: u8) -> u8 {
     match value {
-        0..=9 => char::from(b'0' + value),
-        _ => char::from(b'A' + (value - 10)),
+        0..=9 => b'0' + value,
+        _ => b'A' + (value - 10),
     }
 }
 
@@ -156,16 +308,29 @@ mod tests {
     use super::*;
 
     /// Knows the command `b` only, and prints the bytes after it.
-    fn echo(command: &[u8], words: &[&[u8]]) -> Result<String, NotUnderstood> {
-        match command {
-            b"b" => Ok(format!("b{}\n", spaced_hex(&bytes(words)?))),
-            _ => Err(NotUnderstood::UnknownCommand),
+    struct Echo;
+
+    impl Program for Echo {
+        fn answer(
+            &mut self,
+            command: &[u8],
+            mut words: Words,
+            output: &mut impl Write,
+        ) -> Result<(), Problem> {
+            if command != b"b" {
+                return Err(NotUnderstood::UnknownCommand.into());
+            }
+            let mut bytes = Vec::new();
+            words.bytes_into(&mut bytes)?;
+            writeln!(output, "b{}", spaced_hex(&bytes))?;
+            Ok(())
         }
     }
 
     fn assert_run(input: &[u8], expected: &str, expected_errors: &str) {
         let (mut output, mut errors) = (Vec::new(), Vec::new());
-        let outcome = answer_all(&mut &*input, &mut output, &mut errors, echo);
+        let mut input = BufReader::new(input);
+        let outcome = answer_all(&mut input, &mut output, &mut errors, &mut Echo);
         assert_eq!(String::from_utf8_lossy(&output), expected);
         assert_eq!(String::from_utf8_lossy(&errors), expected_errors);
         let understood = expected_errors.is_empty();
@@ -182,6 +347,31 @@ mod tests {
             assert_eq!(byte(format!("{value:02X}").as_bytes()), Some(value));
             assert_eq!(byte(format!("{value:02x}").as_bytes()), Some(value));
             assert_eq!(spaced_hex(&[value]), format!(" {value:02X}"));
+        }
+    }
+
+    #[test]
+    fn bytes_are_printed_as_they_are_shown() {
+        for count in [0, 1, 63, 64, 65, 128, 1000] {
+            let bytes: Vec<u8> = (0..count).map(|number: u32| (number % 251) as u8).collect();
+            let mut output = Vec::new();
+            assert!(print_spaced_hex(&mut output, &bytes).is_ok());
+            assert_eq!(String::from_utf8_lossy(&output), spaced_hex(&bytes));
+        }
+    }
+
+    #[test]
+    fn words_and_limits() {
+        let words: Vec<&[u8]> = Words::of(b"  a  bc d\t ").collect();
+        assert_eq!(words, [&b"a"[..], b"bc", b"d\t"]);
+        assert_eq!(Words::of(b"   ").count(), 0);
+        assert_eq!(decimal_32(b"4294967295"), Some(u32::MAX));
+        assert_eq!(decimal_32(b"4294967296"), None);
+        assert_eq!(decimal_up_to(b"10000", 10_000), Some(10_000));
+        assert_eq!(decimal_up_to(b"10001", 10_000), None);
+        assert_eq!(bytes_of_pairs(b"a01F"), Some([0xA0, 0x1F]));
+        for word in ["", "a01", "a01f0", "a01f00", "g01f"] {
+            assert_eq!(bytes_of_pairs::<2>(word.as_bytes()), None);
         }
     }
 

@@ -1,9 +1,11 @@
 //! The program `messages`: recordings, data messages and readings (docs/BENCH.md).
 
+use std::io::Write;
+
 use crate::compose::{Draft, Refusal};
 use crate::data_message::{self, Fault, Kind, Layer, Packet};
 use crate::frames::{self, Piece};
-use crate::lines::{self, hex, spaced_hex, NotUnderstood};
+use crate::lines::{self, hex, spaced_hex, NotUnderstood, Problem, Program, Words};
 use crate::readings::{self, Reading};
 
 /// The bytes of the tray in which a message is composed.
@@ -11,8 +13,24 @@ const TRAY: usize = 2055;
 /// The most readings at once.
 const MOST_READINGS: u64 = 1_000_000;
 
+/// The program; it keeps nothing from one line to the next.
+pub struct Messages;
+
+impl Program for Messages {
+    fn answer(
+        &mut self,
+        command: &[u8],
+        words: Words,
+        output: &mut impl Write,
+    ) -> Result<(), Problem> {
+        let words: Vec<&[u8]> = words.collect();
+        output.write_all(answer(command, &words)?.as_bytes())?;
+        Ok(())
+    }
+}
+
 /// What `messages` prints for a line.
-pub fn answer(command: &[u8], words: &[&[u8]]) -> Result<String, NotUnderstood> {
+fn answer(command: &[u8], words: &[&[u8]]) -> Result<String, NotUnderstood> {
     match command {
         b"f" => Ok(recording(&lines::bytes(words)?)),
         b"r" => Ok(data_message(&lines::bytes(words)?)),

@@ -4,6 +4,8 @@
 use std::cmp::Ordering;
 use std::ops::RangeInclusive;
 
+use crate::hash::{next_number, Hash};
+
 /// The readings that there are.
 const RANGE: RangeInclusive<i64> = -(1 << 47)..=(1 << 47) - 1;
 /// A reading counts units of 2 to the power of minus this.
@@ -71,6 +73,40 @@ fn without_last_bits(number: u64, bits: u32) -> u64 {
     down + up
 }
 
+/// A precision in which a real number is sent.
+#[derive(Debug, Clone, Copy, PartialEq, Eq)]
+pub enum Precision {
+    /// Precision 0, IEEE 754 single.
+    Single,
+    /// Precision 1, fixed point 12.20.
+    Fixed12_20,
+    /// Precision 2, fixed point 16.32.
+    Fixed16_32,
+    /// Precision 3, IEEE 754 double.
+    Double,
+}
+
+impl Precision {
+    pub fn of_format_digit(digit: u16) -> Option<Precision> {
+        match digit {
+            0 => Some(Precision::Single),
+            1 => Some(Precision::Fixed12_20),
+            2 => Some(Precision::Fixed16_32),
+            3 => Some(Precision::Double),
+            _ => None,
+        }
+    }
+
+    /// The bytes of one real number.
+    pub fn bytes(self) -> usize {
+        match self {
+            Precision::Single | Precision::Fixed12_20 => 4,
+            Precision::Fixed16_32 => 6,
+            Precision::Double => 8,
+        }
+    }
+}
+
 /// A reading: a number from −2^47 to 2^47 − 1, in units of 2^-32.
 #[derive(Debug, Clone, Copy, PartialEq, Eq)]
 pub struct Reading(i64);
@@ -79,6 +115,12 @@ impl Reading {
     /// The reading, or nothing if it is out of range.
     pub fn new(v: i64) -> Option<Reading> {
         RANGE.contains(&v).then_some(Reading(v))
+    }
+
+    /// The reading next to a number: the number itself, or the end of the range beyond
+    /// which it lies.
+    pub fn clamped(v: i64) -> Reading {
+        Reading(v.clamp(*RANGE.start(), *RANGE.end()))
     }
 
     /// The reading that the high 48 bits of a number give, 0 being the lowest.
@@ -110,35 +152,21 @@ impl Reading {
     pub fn double(self) -> [u8; 8] {
         DOUBLE.nearest(self.0).to_be_bytes()
     }
-
-    /// The bytes of all four precisions, one behind the other.
-    fn all_bytes(self) -> impl Iterator<Item = u8> {
-        let low = self.single().into_iter().chain(self.fixed_12_20());
-        low.chain(self.fixed_16_32()).chain(self.double())
-    }
 }
 
 /// The hash of so many readings that follow from a seed, in all four precisions.
 pub fn hash_of_many(seed: u64, count: u64) -> u64 {
     let mut number = seed;
-    let mut hash = 14695981039346656037;
+    let mut hash = Hash::START;
     for _ in 0..count {
-        number = next(number);
-        hash = Reading::of_high_bits(number)
-            .all_bytes()
-            .fold(hash, hash_with);
+        number = next_number(number);
+        let reading = Reading::of_high_bits(number);
+        hash.add(&reading.single());
+        hash.add(&reading.fixed_12_20());
+        hash.add(&reading.fixed_16_32());
+        hash.add(&reading.double());
     }
-    hash
-}
-
-fn next(number: u64) -> u64 {
-    number
-        .wrapping_mul(6364136223846793005)
-        .wrapping_add(1442695040888963407)
-}
-
-fn hash_with(hash: u64, byte: u8) -> u64 {
-    (hash ^ u64::from(byte)).wrapping_mul(1099511628211)
+    hash.value()
 }
 
 #[cfg(test)]
@@ -188,6 +216,39 @@ mod tests {
         for v in [-(1 << 47) - 1, 1 << 47, i64::MIN, i64::MAX] {
             assert_eq!(Reading::new(v), None);
         }
+    }
+
+    #[test]
+    fn clamping() {
+        for (v, expected) in [
+            (i64::MIN, -(1 << 47)),
+            (-(1 << 47) - 1, -(1 << 47)),
+            (-(1 << 47), -(1 << 47)),
+            (0, 0),
+            ((1 << 47) - 1, (1 << 47) - 1),
+            (1 << 47, (1 << 47) - 1),
+            (i64::MAX, (1 << 47) - 1),
+        ] {
+            assert_eq!(Reading::clamped(v), Reading(expected));
+        }
+    }
+
+    #[test]
+    fn sizes_of_precisions() {
+        let precisions: Vec<_> = (0..16).filter_map(Precision::of_format_digit).collect();
+        let sizes: Vec<_> = precisions
+            .iter()
+            .map(|precision| precision.bytes())
+            .collect();
+        assert_eq!(sizes, [4, 4, 6, 8]);
+        let reading = Reading(1);
+        let written = [
+            reading.single().len(),
+            reading.fixed_12_20().len(),
+            reading.fixed_16_32().len(),
+            reading.double().len(),
+        ];
+        assert_eq!(sizes, written);
     }
 
     #[test]
@@ -249,7 +310,7 @@ mod tests {
     fn many_readings_agree_with_the_machine() {
         let mut number = 11;
         for _ in 0..1_000_000 {
-            number = next(number);
+            number = next_number(number);
             let Reading(v) = Reading::of_high_bits(number);
             check(v);
             check(v >> (number % 47));
