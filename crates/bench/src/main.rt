@@ -4,7 +4,7 @@
 mod bench;
 
 use bench::Bench;
-use commands::{LineError, Misread, answer_all, only_number};
+use commands::{Answers, LineError, Misread, answer_all, only_number};
 use lines::{bytes_of, next_word};
 use std::process::ExitCode;
 use store::{Page, Store};
@@ -18,28 +18,25 @@ fn read_count(line: &[u8]) -> Result<u32, Misread> {
     u32::try_from(number).map_err(|_| Misread::NotANumber)
 }
 
-// Does what a line asks for.
-fn answer<S: Store + Drop>(
-    rt: &HostRuntime,
-    bench: &mut Bench<S>,
-    line: &[u8],
-) -> Result<(), LineError> {
-    let Some((command, rest)) = next_word(line) else {
-        return Ok(());
-    };
-    match command {
-        b"b" => bench.feed(rt, bytes_of(rt.alloc(), rest)?.as_slice())?,
-        b"t" => bench.tick(rt, read_count(rest)?)?,
-        _ => return Err(Misread::UnknownCommand.into()),
+impl<S: Store + Drop> Answers for Bench<S> {
+    fn answer(&mut self, rt: &HostRuntime, line: &[u8]) -> Result<(), LineError> {
+        let Some((command, rest)) = next_word(line) else {
+            return Ok(());
+        };
+        match command {
+            b"b" => self.feed(rt, bytes_of(rt.alloc(), rest)?.as_slice())?,
+            b"t" => self.tick(rt, read_count(rest)?)?,
+            _ => return Err(Misread::UnknownCommand.into()),
+        }
+        Ok(())
     }
-    Ok(())
 }
 
 // Powers a unit over the store, answers line by line, and prints the writes left.
 fn run<S: Store + Drop>(rt: &HostRuntime, store: S) -> anyhow::Result<ExitCode> {
     let mut bench = Bench::new(store);
     bench.power(rt)?;
-    let status = answer_all(rt, |line| answer(rt, &mut bench, line))?;
+    let status = answer_all(rt, &mut bench)?;
     let left = bench.writes_left();
     println!(rt; "left {left}")?;
     Ok(status)

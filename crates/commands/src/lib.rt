@@ -12,5 +12,5 @@ pub use arguments::{Arguments, only_number};
 pub use fault::{LineError, Misread};
 pub use hash::{Hash, next_number};
 pub use print::{print_bare_bytes, print_bytes};
-pub use script::{Script, answer_all, read_input};
+pub use script::{Answers, Script, answer_all, read_input};
 pub use words::{device_id_of, identifier_of, integer_of, only_word};

@@ -82,17 +82,18 @@ impl<'a> Script<'a> {
     }
 }
 
+// A program that answers line by line.
+pub trait Answers {
+    // Does what a line asks for.
+    fn answer(&mut self, rt: &HostRuntime, line: &[u8]) -> Result<(), LineError>;
+}
+
 // Answers each line of the input, and gives the status.
-pub fn answer_all<F: FnMut(&[u8]) -> Result<(), LineError>>(
-    rt: &HostRuntime,
-    mut answer: F,
-) -> anyhow::Result<ExitCode>
-    requires { F.IsAlwaysCallable answer }
-{
+pub fn answer_all<A: Answers>(rt: &HostRuntime, program: &mut A) -> anyhow::Result<ExitCode> {
     let input = read_input(rt)?;
     let mut script = Script::over(input.as_slice());
     while let Some(line) = script.next() {
-        let answered = answer(line);
+        let answered = program.answer(rt, line);
         script.settle(rt, answered)?;
     }
     Ok(script.status())

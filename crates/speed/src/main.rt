@@ -5,7 +5,7 @@ mod driven;
 mod load;
 mod source;
 
-use commands::{LineError, Misread, answer_all, only_number};
+use commands::{Answers, LineError, Misread, answer_all, only_number};
 use lines::next_word;
 use load::Load;
 use std::process::ExitCode;
@@ -22,16 +22,21 @@ fn print_hash(rt: &HostRuntime, load: Load, count: u32) -> anyhow::Result<()> {
     Ok(())
 }
 
-// Does what a line asks for.
-fn answer(rt: &HostRuntime, line: &[u8]) -> Result<(), LineError> {
-    let Some((command, rest)) = next_word(line) else {
-        return Ok(());
-    };
-    let load = Load::of(command).ok_or(Misread::UnknownCommand)?;
-    print_hash(rt, load, read_count(rest)?)?;
-    Ok(())
+// The program.
+#[derive(Drop)]
+struct Speed;
+
+impl Answers for Speed {
+    fn answer(&mut self, rt: &HostRuntime, line: &[u8]) -> Result<(), LineError> {
+        let Some((command, rest)) = next_word(line) else {
+            return Ok(());
+        };
+        let load = Load::of(command).ok_or(Misread::UnknownCommand)?;
+        print_hash(rt, load, read_count(rest)?)?;
+        Ok(())
+    }
 }
 
 fn main(rt: HostRuntime) -> anyhow::Result<ExitCode> {
-    answer_all(&rt, |line| answer(&rt, line))
+    answer_all(&rt, &mut Speed)
 }
