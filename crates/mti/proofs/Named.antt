@@ -12,7 +12,7 @@ use Rattle.mti.specs.Channels.{channel_of, taken_by}
 use Rattle.mti.specs.Exactly.{Exactly}
 use Rattle.mti.specs.Identifiers.{plain, combined, known_of, identifier_of, bytes_of, size_of, data_size_of, Known, KnownSize, Bounded}
 use Rattle.mti.specs.Precisions.{digit_of, precision_of}
-use Rattle.mti.specs.Table.{Row, Moderate}
+use Rattle.mti.specs.Table.{Moderate}
 use Rattle.mti.proofs.Exact.{exactly, none_not_some}
 use Rattle.mti.proofs.Digits.{digit_small, digit_of_found, precision_of_digit}
 use Rattle.mti.proofs.Rows.{orderly_table, channel_of_row, row_of_channel}
@@ -53,13 +53,6 @@ known_complete i o k =
 pub known_exactly : (i : ℕ) (r : Option Output) → r ≡ known_of i → Exactly (Known i) r
 known_exactly i r e =
     exactly (Known i) r (λ o f. known_sound i o (sym e ∙ f)) (λ o k. e ∙ known_complete i o k)
-
--- a row of the table in a precision that it takes is known by its identifier
-pub row_known : (o : Output) → Row o.channel → taken_by o.channel.kind o.precision ≡ true
-    → known_of (identifier_of o) ≡ Some o
-row_known o r t =
-    let z = (orderly_table.regular o.channel r).format_0 in
-    known_complete (identifier_of o) o (record { row = r; taken = t; spelt = omega arith })
 
 -- the identifier of what is known is the one that it is known by
 pub known_identifier : (i : ℕ) (o : Output) → Known i o → identifier_of o ≡ i

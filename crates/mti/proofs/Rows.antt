@@ -1,7 +1,7 @@
 -- The table's rule, by one test that antt computes, and what looking into the table finds.
 use Rattle.std.proofs.Common.{◌≡◌, ℕ, zero, suc, ◌%◌, ◌<◌, Bool, true, ◌&&◌, ◌||◌, eqb, ltb, leb, List, [], ◌∷◌, length, get_or, Some, Option, sym, refl, ap, ◌∙◌, inl, inr, ⊎_elim, arith}
-use Rattle.std.specs.List.{ContainsAt as Has, AllByRecursion}
-use Rattle.std.proofs.ByRecursion.{all-has}
+use Rattle.std.specs.List.{Contains, AllByRecursion}
+use Rattle.std.proofs.lemmas.List.Elements.{All-contains, All-from_recursion}
 use Rattle.std.proofs.lemmas.Bool.{and_parts, or_cases, ltb-true, leb-true, eqb-true, eq-eqb, ne_eqb, cond-true, cond-false, cond_both}
 use Rattle.mti.specs.declared.channel.Kind.{Kind}
 use Rattle.mti.specs.declared.channel.Kind.TheVariants.{Real, Whole}
@@ -80,16 +80,18 @@ table_orderly : orderly 0 channels ≡ true
 table_orderly = refl
 
 pub orderly_table : Orderly
-orderly_table =
-    record { regular = λ c r. all-has Regular channels c (all_regular 0 channels table_orderly) r; rising = all_rising 0 channels table_orderly }
+orderly_table = record {
+  regular = λ c r. All-contains Regular channels c (All-from_recursion Regular channels (all_regular 0 channels table_orderly)) r;
+  rising = all_rising 0 channels table_orderly;
+}
 
 -- what is found is a row that bears the identifier
-found_bears : (i : ℕ) (cs : List Channel) (c : Channel) → first_of i cs ≡ Some c → Has cs c × (c.identifier ≡ i)
+found_bears : (i : ℕ) (cs : List Channel) (c : Channel) → first_of i cs ≡ Some c → Contains cs c × (c.identifier ≡ i)
 found_bears i [] c e = absurd (none_not_some c e)
 found_bears i (x ∷ cs) c e =
-    let P : Option Channel → Type 0 = λ r. r ≡ Some c → Has (x ∷ cs) c × (c.identifier ≡ i) in
+    let P : Option Channel → Type 0 = λ r. r ≡ Some c → Contains (x ∷ cs) c × (c.identifier ≡ i) in
     cond_both (eqb x.identifier i) (Some x) (first_of i cs) P
-    (λ t f. let same : x ≡ c = cc in ((0, omega arith, λ d. same), ap (λ (y : Channel). y.identifier) (sym same) ∙ eqb-true _ _ t))
+    (λ t f. let same : x ≡ c = cc in ((0, omega arith, same), ap (λ (y : Channel). y.identifier) (sym same) ∙ eqb-true _ _ t))
     (λ t f. let rest = found_bears i cs c f in ((suc rest.0.0, omega (arith, rest.0.1), rest.0.2), rest.1))
     e
 
@@ -108,11 +110,15 @@ row_found n (x ∷ cs) t c (suc k) h e =
 
 pub channel_of_row : (c : Channel) → Row c → channel_of c.identifier ≡ Some c
 unfolding channel_of
-channel_of_row c h = row_found 0 channels table_orderly c h.0 h.1 (h.2 c)
+channel_of_row c h = row_found 0 channels table_orderly c h.0 h.1 h.2
 
 pub row_of_channel : (i : ℕ) (c : Channel) → channel_of i ≡ Some c → Bearer i c
 unfolding channel_of
 row_of_channel i c e = found_bears i channels c e
+
+-- the channel of an identifier bears it
+pub named_so : (i : ℕ) (c : Channel) → channel_of i ≡ Some c → record c { identifier = i } ≡ c
+named_so i c e = ap (λ (n : ℕ). record c { identifier = n }) (sym (row_of_channel i c e).1)
 
 pub channel_exactly : (i : ℕ) (r : Option Channel) → r ≡ channel_of i → Exactly (Bearer i) r
 channel_exactly i r e =

@@ -1,4 +1,4 @@
--- The channels of the products. Assumes nothing.
+-- The channels of the products.
 use Rattle.std.specs.Prelude.{ℕ, Bool, true, false, List, [], ◌∷◌, Option, ◌==◌}
 use Rattle.std.specs.List.{find}
 use Rattle.mti.specs.declared.channel.Availability.{Availability}

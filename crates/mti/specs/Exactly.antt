@@ -1,4 +1,4 @@
--- What an answer that may be none says. Assumes nothing.
+-- What an answer that may be none says.
 use Rattle.std.specs.Prelude.{◌≡◌, Some, None, Option}
 
 -- the answer is the one thing that P holds of, and none exactly if P holds of nothing

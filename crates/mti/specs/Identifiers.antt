@@ -1,4 +1,4 @@
--- The identifiers of data in a message, and the sizes of that data. Assumes nothing.
+-- The identifiers of data in a message, and the sizes of that data.
 use Rattle.std.specs.Prelude.{◌≡◌, ℕ, ◌+◌, ◌-◌, ◌*◌, ◌%◌, ◌≤◌, true, cond, Some, None, Option}
 use Rattle.std.specs.Option.{option_map}
 use Rattle.mti.specs.declared.channel.Channel.{Channel}

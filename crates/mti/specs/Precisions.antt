@@ -1,4 +1,4 @@
--- The formats of one real number. Assumes nothing.
+-- The formats of one real number.
 use Rattle.std.specs.Prelude.{ℕ, cond, Some, None, Option, Result, ◌==◌}
 use Rattle.std.specs.Option.{ok_or}
 use Rattle.mti.specs.declared.precision.Precision.{Precision}

@@ -1,4 +1,4 @@
--- The range of readings. Assumes nothing.
+-- The range of readings.
 use Rattle.std.specs.Prelude.{◌-◌, ◌^◌, ℤ, pos, negsuc}
 
 -- a real number's reading, in units of 2^-32, lies from -2^47

@@ -1,6 +1,6 @@
--- What holds of the table of channels, and of looking into it. Assumes nothing.
+-- What holds of the table of channels, and of looking into it.
 use Rattle.std.specs.Prelude.{◌≡◌, ℕ, ◌%◌, ◌<◌, ◌≤◌, ◌⊎◌, length, slice_index_or}
-use Rattle.std.specs.List.{ContainsAt as Has}
+use Rattle.std.specs.List.{Contains}
 use Rattle.mti.specs.declared.channel.Kind.{Kind}
 use Rattle.mti.specs.declared.channel.Kind.TheVariants.{Real, Whole}
 use Rattle.mti.specs.declared.channel.Channel.{Channel}
@@ -8,7 +8,7 @@ use Rattle.mti.specs.Channels.{channels}
 
 -- a row of the table
 abbrev pub Row : Channel → Type 0
-Row c = Has channels c
+Row c = Contains channels c
 
 -- a row that bears the identifier
 abbrev pub Bearer : ℕ → Channel → Type 0

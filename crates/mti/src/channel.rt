@@ -1,5 +1,6 @@
 // The channels of the products.
 ghost use Rattle.std.specs.Prelude.{◌≡◌};
+ghost use Rattle.std.specs.Option.{option_map};
 ghost use Rattle.mti.specs.Channels.{channel_of, offered_by, taken_by};
 ghost use Rattle.mti.specs.Exactly.{Exactly};
 ghost use Rattle.mti.specs.Table.{Bearer, Orderly};
@@ -77,14 +78,22 @@ const CHANNELS: [Channel; 19] = [
     Channel { identifier: 0xE020, kind: Whole(4), max_hz: 2000, availability: All },
 ];
 
+// The row of the table that bears the identifier.
+// Never inlined, so that the compiler sees two searches for one identifier as the same call, and makes it once.
+#[inline(never)]
+fn find_row(identifier: u16) -> Option<&'static Channel>
+    ensures { option_map (λ row. row.now) result ≡ channel_of identifier }
+{
+    CHANNELS.iter().find(|row| row.identifier == identifier)
+}
+
 // The channel of the table that bears the identifier.
 pub fn find_channel(identifier: u16) -> Option<Channel>
     ensures is { result ≡ channel_of identifier }
     ensures exact { Exactly (Bearer identifier) result }
     ensures table { Orderly }
 {
-    CHANNELS
-        .iter()
-        .find(|row| row.identifier == identifier)
-        .copied()
+    let row = find_row(identifier)?;
+    // The identifier as it was asked for: a later search for the channel's own is then the same call.
+    Some(Channel { identifier, ..*row })
 }

@@ -1,6 +1,6 @@
--- Lists whose elements are bytes: their elements and parts.
-use Rattle.std.proofs.Common.{ℕ, zero, suc, ◌<◌, List, [], ◌∷◌, ◌++◌, length, get_or, take, drop, replicate, arith, Fits, w8}
-use Rattle.xbus.specs.Numbers.{Bytes}
+-- Lists whose elements are bytes: their elements and parts, and the bytes of numbers.
+use Rattle.std.proofs.Common.{ℕ, zero, suc, ◌<◌, List, [], ◌∷◌, ◌++◌, length, get_or, take, drop, replicate, mod-lt, arith, lit<, Fits, w8}
+use Rattle.xbus.specs.Numbers.{Bytes, be}
 
 pub bytes_all : (xs : List ℕ) → ((k : ℕ) → k < length xs → get_or xs k 0 < 256) → Bytes xs
 bytes_all [] h = tt
@@ -32,3 +32,7 @@ bytes_append (x ∷ xs) ys bs cs = (bs.0, bytes_append xs ys bs.1 cs)
 pub bytes_zeros : (n : ℕ) → Bytes (replicate n 0)
 bytes_zeros zero = tt
 bytes_zeros (suc n) = (omega arith, bytes_zeros n)
+
+pub bytes_be : (k n : ℕ) → Bytes (be k n)
+bytes_be zero n = tt
+bytes_be (suc k) n = (mod-lt _ (lit< tt), bytes_be k n)

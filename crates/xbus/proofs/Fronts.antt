@@ -172,5 +172,13 @@ whole_bounded xs n e =
       | cut l w ↦ absurd (whole_not_waits n (sym w))
     ]
 
+-- a whole frame holds its header and checksum
+pub whole_around : (xs : List ℕ) (n : ℕ) → front_of xs ≡ Whole n → around xs ≤ n
+whole_around xs n e =
+    elim (header xs (Whole n) (whole_not_wrong n) e) [
+      | announces k low high room a ↦ let f = announced_complete k n xs a in omega arith
+      | cut l w ↦ absurd (whole_not_waits n (sym w))
+    ]
+
 pub front_bounded : (xs : List ℕ) → Bounded xs
 front_bounded xs = record { waits = waits_bounded xs; whole = whole_bounded xs }

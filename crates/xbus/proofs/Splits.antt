@@ -1,14 +1,16 @@
 -- Frames and their parts are each other's inverse.
 use Rattle.std.proofs.Common.{◌≡◌, ℕ, ◌+◌, ◌-◌, ◌/◌, ◌%◌, ◌≤◌, cond, leb, List, [], ◌∷◌, ◌++◌, length, take, drop, Some, None, sym, refl, ap, ◌∙◌, subst, ⊎_elim, arith}
-use Rattle.std.proofs.lemmas.List.{length-append, take_at, drop_at}
-use Rattle.std.proofs.lemmas.Bool.{lt-leb, cond-false, cases_lt}
+use Rattle.std.proofs.lemmas.List.{length-append, length-take-le, get_or-take, take_at, drop_at}
+use Rattle.std.proofs.lemmas.Bool.{le-leb, lt-leb, cond-true, cond-false, cases_lt}
 use Rattle.xbus.specs.declared.front.Front.{Front}
 use Rattle.xbus.specs.declared.front.Front.TheVariants.{Whole, Waits, Wrong}
 use Rattle.xbus.specs.Front.{front_of}
 use Rattle.xbus.specs.Frames.{checksum, enclosed, encoded, Frame}
-use Rattle.xbus.specs.Parts.{Parts, frame_of, around, parts_of, whole_parts, first_parts, PartsInverse}
+use Rattle.xbus.specs.Parts.{Parts, frame_of, around, parts_of, split_of, whole_parts, first_parts, PartsInverse}
 use Rattle.xbus.specs.Writing.{ReadsBack}
-use Rattle.xbus.proofs.Cases.{length_short, length_is_long, encoded_whole, front_said}
+use Rattle.xbus.proofs.Headers.{length_short, length_is_long}
+use Rattle.xbus.proofs.Fronts.{front_bounded, whole_around}
+use Rattle.xbus.proofs.Cases.{encoded_whole, front_said}
 
 -- what is known of the bytes of a frame: the header tells where the data are
 record Split (xs : List ℕ) (a i : ℕ) (d : List ℕ) : Type 0 where
@@ -52,6 +54,15 @@ parts_inverse = record {
   parts_back = parts_encoded;
   frame_back = λ xs bs n e. frame_parts (take n xs) ((front_said xs bs).whole n e).1;
 }
+
+-- a whole frame has parts
+pub split_whole : (xs : List ℕ) (n : ℕ) → front_of xs ≡ Whole n → split_of (take n xs) ≡ Some (parts_of (take n xs))
+split_whole xs n e =
+    let f : List ℕ = take n xs in
+    let b = (front_bounded xs).whole n e in
+    let same : around f ≡ around xs = ap (λ k. cond (leb 255 k) 7 5) (get_or-take n xs 3 0 (omega arith)) in
+    cond-true (leb (around f) (length f)) (Some (parts_of f)) None
+    (le-leb (around f) (length f) (omega (arith, same, whole_around xs n e, length-take-le n xs b.2)))
 
 -- no whole frame stands there
 pub split_none : (xs : List ℕ) (w : Front) → w ≡ front_of xs → ((n : ℕ) → w ≡ Whole n → ⊥) → None ≡ first_parts xs

@@ -1,9 +1,8 @@
 -- Big-endian numbers: one law for every width, and the steps of reading and writing byte by byte.
-use Rattle.std.proofs.Common.{◌≡◌, ℕ, zero, suc, ◌+◌, ◌-◌, ◌*◌, ◌≤◌, drop, ap₂, ◌/◌, ◌%◌, ◌^◌, ◌<◌, List, [], ◌∷◌, ◌++◌, length, get_or, take, set, reverse, sym, refl, ap, ◌∙◌, mod-eq_of_lt, mul_assoc, pow-suc, div-one, add-one, arith, lit<}
+use Rattle.std.proofs.Common.{◌≡◌, ℕ, zero, suc, ◌+◌, ◌*◌, ◌/◌, ◌%◌, ◌^◌, ◌<◌, List, [], ◌∷◌, ◌++◌, length, get_or, take, set, reverse, sym, refl, ap, ◌∙◌, mod-eq_of_lt, mul_assoc, pow-suc, div-one, add-one, arith, lit<}
 use native.Mathlib.Nat.{mod-one, pow-succ', one-le-pow, mul-add-div_right, mul-add-mod_self_right, div-div-eq-div-mul}
 use lib.Arith.{mod-mul, digits_lt, digits_div}
-use Rattle.std.proofs.lemmas.List.{length_push, take_more, take_all, take_more_set, reverse-append, drop_at}
-use Rattle.std.proofs.lemmas.Nat.{pow-add}
+use Rattle.std.proofs.lemmas.List.{length_push, take_more, take_all, take_more_set, reverse-append}
 use Rattle.xbus.specs.Numbers.{Bytes, be, number_of, NumbersInverse}
 
 power : (k : ℕ) → 0 < 256 ^ k
@@ -43,6 +42,17 @@ be_number (b ∷ bs) h =
 
 pub inverse : NumbersInverse
 inverse = record { number_back = number_be; bytes_back = be_number }
+
+-- a number that its width holds is read as it was written
+pub be_back : (k n : ℕ) → n < 256 ^ k → number_of (be k n) ≡ n
+be_back k n h = number_be k n ∙ mod-eq_of_lt h
+
+-- the bytes of two widths, one by one
+pub two_bytes : (n : ℕ) → n / 256 % 256 ∷ n % 256 ∷ [] ≡ be 2 n
+two_bytes n = ap (λ k. n / 256 % 256 ∷ k % 256 ∷ []) (sym (div-one n))
+
+pub four_bytes : (n : ℕ) → n / 16777216 % 256 ∷ n / 65536 % 256 ∷ n / 256 % 256 ∷ n % 256 ∷ [] ≡ be 4 n
+four_bytes n = ap (λ k. n / 16777216 % 256 ∷ n / 65536 % 256 ∷ n / 256 % 256 ∷ k % 256 ∷ []) (sym (div-one n))
 
 -- ---- reading byte by byte
 
@@ -84,19 +94,3 @@ pub written_all : (v i : ℕ) (out : List ℕ) (r : ℕ) → i ≡ length out �
 unfolding Written
 written_all v i out r e w =
     ap reverse (sym (take_all i out (omega arith))) ∙ w.0 ∙ ap (λ n. be n v) e
-
--- ---- the lowest of eight bytes
-
-be_split : (j k v : ℕ) → be (j + k) v ≡ be j (v / 256 ^ k) ++ be k v
-be_split zero k v = ap (λ n. be n v) (omega arith)
-be_split (suc j) k v =
-    let more : suc j + k ≡ suc (j + k) = omega arith in
-    let d : v / 256 ^ (j + k) ≡ v / 256 ^ k / 256 ^ j =
-    ap (λ n. v / 256 ^ n) (omega arith) ∙ ap (λ n. v / n) (pow-add 256 k j) ∙ sym (div-div-eq-div-mul v (256 ^ k) (256 ^ j)) in
-    ap (λ n. be n v) more ∙ ap₂ (λ n xs. n % 256 ∷ xs) d (be_split j k v)
-
-pub be_lowest : (n k v : ℕ) → k ≤ n → drop (n - k) (be n v) ≡ be k v
-be_lowest n k v h =
-    let more : n ≡ n - k + k = omega arith in
-    ap (λ m. drop (n - k) (be m v)) more ∙ ap (drop (n - k)) (be_split (n - k) k v)
-    ∙ drop_at (be (n - k) (v / 256 ^ k)) (be k v) (n - k) (length_be (n - k) (v / 256 ^ k))

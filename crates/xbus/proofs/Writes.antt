@@ -8,7 +8,7 @@ use Rattle.xbus.specs.Numbers.{be}
 use Rattle.xbus.specs.Front.{total}
 use Rattle.xbus.specs.Frames.{length_bytes, header_of, checksum, enclosed, encoded}
 use Rattle.xbus.specs.Writing.{frame_size, content_start}
-use Rattle.xbus.proofs.Cases.{length_short, length_is_long, length_enclosed}
+use Rattle.xbus.proofs.Headers.{length_short, length_is_long, length_enclosed}
 
 -- ---- the header
 
@@ -66,7 +66,7 @@ module _ (xs out hd : List ℕ) (start len : ℕ)
         ∙ (λ i. front i ++ (c i ∷ []))
 
 -- a frame is a header, the data and a checksum
-frame_room : (n : ℕ) → content_start n + n + 1 ≡ frame_size n
+pub frame_room : (n : ℕ) → content_start n + n + 1 ≡ frame_size n
 frame_room n =
     ⊎_elim
     (λ l. let t = lt-ltb n 255 l in omega (arith, cond-true {A = ℕ} (ltb n 255) 4 6 t, cond-true {A = ℕ} (ltb n 255) (n + 5) (n + 7) t))

@@ -13,14 +13,14 @@ abbrev pub announced : ℕ → List ℕ → Front
 announced n xs =
     cond (nat_lt (length xs) n) Waits (cond (total (take (n - 1) (drop 1 xs)) % 256 == 0) (Whole n) Wrong)
 
--- xs is FA, an address, an identifier, FF and then the list in front
+-- what stands at the front of xs, where the first list is what follows FA, an address, an identifier and FF
 abbrev pub extended : List ℕ → List ℕ → Front
 extended [] xs = Waits
 extended (h ∷ []) xs = cond (nat_le h 8) Waits Wrong
 extended (h ∷ l ∷ rest) xs =
     cond (nat_le 255 (h * 256 + l) && nat_le (h * 256 + l) 2048) (announced (7 + (h * 256 + l)) xs) Wrong
 
--- xs is FA and then the list in front
+-- what stands at the front of xs, where the first list is what follows FA
 abbrev pub started : List ℕ → List ℕ → Front
 started [] xs = Waits
 started (a ∷ []) xs = Waits

@@ -28,6 +28,10 @@ parts_of xs = record {
   content = take (length xs - around xs) (drop (around xs - 1) xs);
 }
 
+-- the parts of a frame; none where the bytes are too few to hold them
+abbrev pub split_of : List ℕ → Option Parts
+split_of xs = cond (nat_le (around xs) (length xs)) (Some (parts_of xs)) None
+
 -- the parts of the whole frame at a front
 abbrev pub whole_parts : Front → List ℕ → Option Parts
 whole_parts (Whole n) xs = Some (parts_of (take n xs))

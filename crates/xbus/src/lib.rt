@@ -10,5 +10,5 @@ mod writing;
 pub use data_len::DataLen;
 pub use front::{EXTENDED, Front, LONGEST, MOST_DATA, START, at_front, sum};
 pub use numbers::{number, put_number};
-pub use parts::{Frame, Header, first_frame};
+pub use parts::{Frame, Header, first_frame, split_frame};
 pub use writing::{WriteError, seal_frame, write_frame};

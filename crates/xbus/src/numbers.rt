@@ -15,6 +15,8 @@ pub fn number(bytes: &[u8]) -> u64
 }
 
 // The same as `put_number`, byte by byte: the lowest first, and then the other way round.
+// Cold, since numbers are sent in other widths: without it `put_number` is short enough to be inlined.
+#[cold]
 fn put_bytewise(out: &mut [u8], value: u64)
     ensures { out.new ≡ be (length out.old) value }
 {
@@ -26,15 +28,17 @@ fn put_bytewise(out: &mut [u8], value: u64)
     out.reverse();
 }
 
-// Fills `out` with the lowest bytes of a number: at once, unless they are more than a number has.
+// Fills `out` with the lowest bytes of a number: at once in the widths in which numbers are sent.
 pub fn put_number(out: &mut [u8], value: u64)
     ensures { out.new ≡ be (length out.old) value }
 {
     let bytes = value.to_be_bytes();
-    let len = out.len();
-    if len <= bytes.len() {
-        out.copy_from_slice(&bytes[bytes.len() - len..]);
-    } else {
-        put_bytewise(out, value);
+    match out.len() {
+        8 => out.copy_from_slice(&bytes),
+        6 => out.copy_from_slice(&bytes[2..]),
+        4 => out.copy_from_slice(&bytes[4..]),
+        2 => out.copy_from_slice(&bytes[6..]),
+        1 => out.copy_from_slice(&bytes[7..]),
+        _ => put_bytewise(out, value),
     }
 }

@@ -1,7 +1,7 @@
 // The parts of a frame.
-ghost use Rattle.std.specs.Prelude.{◌≡◌, ◌≤◌, length};
+ghost use Rattle.std.specs.Prelude.{◌≡◌};
 ghost use Rattle.std.specs.Option.{option_map};
-ghost use Rattle.xbus.specs.Parts.{around, parts_of, first_parts, seen, PartsInverse};
+ghost use Rattle.xbus.specs.Parts.{split_of, first_parts, seen, PartsInverse};
 
 use crate::front::{EXTENDED, Front, at_front};
 
@@ -19,20 +19,18 @@ pub struct Frame<'a> {
     pub content: &'a [u8],
 }
 
-// The parts of a frame that is whole.
-fn split_frame(frame: &[u8]) -> Frame<'_>
-    requires { (5 ≤ length frame.now) × (around frame.now ≤ length frame.now) }
-    ensures { seen result ≡ parts_of frame.now }
+// The parts of a frame. None where the bytes are too few for one.
+pub fn split_frame(frame: &[u8]) -> Option<Frame<'_>>
+    ensures { option_map seen result ≡ split_of frame.now }
 {
-    // Form: by the length byte, since `DataLen::of_frame` has a None, which a whole frame never is.
-    let start = if frame[3] == EXTENDED { 6 } else { 4 };
-    Frame {
-        header: Header {
-            address: frame[1],
-            identifier: frame[2],
-        },
-        content: &frame[start..frame.len() - 1],
-    }
+    // Form: by the length byte, since `DataLen::of_frame` goes by the number of bytes alone.
+    let start = if *frame.get(3)? == EXTENDED { 6 } else { 4 };
+    let content = frame.get(start..frame.len() - 1)?;
+    let header = Header {
+        address: frame[1],
+        identifier: frame[2],
+    };
+    Some(Frame { header, content })
 }
 
 // The whole frame at the front of the bytes, if one stands there.
@@ -41,7 +39,7 @@ pub fn first_frame(bytes: &[u8]) -> Option<Frame<'_>>
     ensures inverse { PartsInverse }
 {
     match at_front(bytes) {
-        Front::Whole(size) => Some(split_frame(&bytes[0..size])),
+        Front::Whole(size) => split_frame(&bytes[0..size]),
         _ => None,
     }
 }

@@ -1,3 +1,4 @@
+-- The front that is computed, in the words of the protocol.
 use Rattle.xbus.proofs.Bytes.{bytes_typed}
 use Rattle.xbus.proofs.Cases.{front_said}
 use Rattle.xbus.proofs.front.at_front.Goals as goal

@@ -1,3 +1,4 @@
+-- Each byte adds itself to the sum.
 use Rattle.std.proofs.Common.{arith, rules, below_more}
 use Rattle.xbus.proofs.Bytes.{bytes_all}
 use Rattle.xbus.proofs.Totals.{total_more}

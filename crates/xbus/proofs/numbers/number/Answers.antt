@@ -1,3 +1,4 @@
+-- Each byte makes the number 256 times as large and is added; bytes and numbers give each other back.
 use Rattle.std.proofs.Common.{arith, rules}
 use Rattle.xbus.proofs.Widths.{number_more, inverse}
 use Rattle.xbus.proofs.numbers.number.Goals as goal

@@ -1,3 +1,4 @@
+-- Each byte is the lowest of the rest, and all of them turned round are the number's bytes.
 use Rattle.std.proofs.Common.{ap, ◌∙◌, arith}
 use Rattle.xbus.specs.Numbers.{be}
 use Rattle.xbus.proofs.Widths.{written_none, written_more, written_all}

@@ -1,3 +1,4 @@
+-- No parts where no whole frame stands in front; parts and frames give each other back.
 use Rattle.xbus.proofs.Splits.{split_none, parts_inverse}
 use Rattle.xbus.proofs.parts.first_frame.Goals as goal
 

@@ -1,3 +1,4 @@
+-- The data are copied to their place, so that what is sealed is the frame of them.
 use Rattle.std.proofs.Common.{◌∙◌, rules}
 use Rattle.xbus.proofs.Writes.{copied}
 use Rattle.xbus.proofs.writing.fill_frame.Goals as goal

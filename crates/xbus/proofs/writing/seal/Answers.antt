@@ -1,3 +1,4 @@
+-- The header in front of the data, and behind them the byte that brings the sum to 0.
 use Rattle.xbus.proofs.Writes.{sealed_frame}
 use Rattle.xbus.proofs.writing.seal.Goals as goal
 

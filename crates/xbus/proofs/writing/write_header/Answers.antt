@@ -1,3 +1,4 @@
+-- A length below 255 is one byte of the header, and any other is FF and two bytes.
 use Rattle.std.proofs.Common.{rules}
 use Rattle.xbus.proofs.Writes.{header_short, header_long}
 use Rattle.xbus.proofs.writing.write_header.Goals as goal
