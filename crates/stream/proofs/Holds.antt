@@ -1,15 +1,16 @@
 -- What the facts of the waiting buffer say of the bytes that it holds, and its steps.
 use Rattle.std.proofs.Common.{◌≡◌, ℕ, ◌+◌, ◌<◌, ◌≤◌, true, false, eqb, List, [], ◌∷◌, ◌++◌, length, take, drop, set, is_some, Some, None, Option, Ok, Err, Result, sym, refl, ap, ◌∙◌, arith}
-use Rattle.std.proofs.lemmas.List.{length-take-le, append_assoc, take_more_set}
+use Rattle.std.proofs.lemmas.List.{length-take-le, append-nil, append_assoc, take-take, take_more_set}
 use Rattle.std.proofs.lemmas.Bool.{true≢false, ne_eqb, cond-false}
 use Rattle.stream.specs.declared.buffer.Waiting.{Waiting}
 use Rattle.stream.specs.declared.waiting.FrameWaits.{FrameWaits}
 use Rattle.xbus.specs.declared.front.Front.TheVariants.{Whole, Waits, Wrong}
 use Rattle.xbus.specs.Front.{front_of}
-use Rattle.xbus.specs.Parts.{Parts, whole_parts, first_parts}
+use Rattle.xbus.specs.Parts.{Parts, split_of, whole_parts, first_parts}
 use Rattle.stream.specs.Settling.{unless_wrong, settled, front_by, is_front_by}
 use Rattle.stream.specs.Waiting.{held, if_whole, taking, took, passed}
-use Rattle.xbus.proofs.Fronts.{front_bounded}
+use Rattle.xbus.proofs.Fronts.{whole_not_waits, front_bounded}
+use Rattle.xbus.proofs.Splits.{split_whole}
 use Rattle.stream.proofs.Settles.{is_front_by_lem, front_by_is, settled_waits}
 
 module _ (w : Waiting) where
@@ -35,6 +36,15 @@ module _ (w : Waiting) where
 
   pub whole_within : (n : ℕ) → w.whole ≡ Some n → n ≤ w.len
   whole_within n e = let b = ((front_bounded (held w)).whole n (held_whole n e)).2 in omega (arith, held_length)
+
+  -- where too few bytes are there, no whole frame waits
+  pub few_none : w.len < w.until → w.whole ≡ None
+  few_none few =
+      none w.whole (sym held_front ∙ ap front_of (sym (append-nil (held w))) ∙ is_front_by_lem _ None (w.waits [] (omega arith)))
+    where
+      none : (o : Option ℕ) → front_by o ≡ Waits → o ≡ None
+      none (Some n) e = absurd (whole_not_waits n e)
+      none None e = refl
 
   -- a byte behind the others
   pub held_more : (b : ℕ) → w.len < 2055 → take (w.len + 1) (set w.bytes w.len b) ≡ held w ++ (b ∷ [])
@@ -72,6 +82,13 @@ module _ (w : Waiting) where
 
   pub taking_none : false ≡ is_some w.whole → ◌≡◌ {A = Result (Unit {0}) FrameWaits} (Ok tt) (taking (held w))
   taking_none e = ap (λ f. if_whole f (λ _. Err (record {})) (Ok tt)) (sym (held_waits e))
+
+  -- the frame at the front has the size that is noted
+  pub parts_some : (n : ℕ) (r : Option Parts) → w.whole ≡ Some n → r ≡ split_of (take n w.bytes) → r ≡ first_parts (held w)
+  parts_some n r e s =
+      let front = held_whole n e in
+      let same : take n (held w) ≡ take n w.bytes = take-take n w.len w.bytes (whole_within n e) in
+      s ∙ ap split_of (sym same) ∙ split_whole (held w) n front ∙ ap (λ f. whole_parts f (held w)) (sym front)
 
   pub parts_none : w.whole ≡ None → ◌≡◌ {A = Option Parts} None (first_parts (held w))
   parts_none e = ap (λ f. whole_parts f (held w)) (sym (held_front ∙ ap front_by e))

@@ -20,6 +20,7 @@ pub data Piece : Type 0 where
   -- what is left at the end
   left : List ℕ → Piece
 
+-- the pieces of xs, by what stands at its front; `behind n` are those behind its first n bytes
 abbrev pub pieces_by : Front → List ℕ → (ℕ → List Piece) → List Piece
 pieces_by (Whole n) xs behind = frame (take n xs) ∷ behind n
 pieces_by Waits xs behind = left xs ∷ []
@@ -73,6 +74,7 @@ shown (code.Left s) = left s.now ∷ []
 abbrev pub seen_next : CodePiece × Bor (List ℕ) → List Piece × List ℕ
 seen_next q = (shown q.0, q.1.now)
 
+-- what is handed out next where no byte is dropped, by what stands at the front
 abbrev pub next_by : Front → List ℕ → Option (List Piece × List ℕ)
 next_by (Whole n) xs = Some (frame (take n xs) ∷ [], drop n xs)
 next_by Waits xs = cond (length xs == 0) None (Some (left xs ∷ [], []))

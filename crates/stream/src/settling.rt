@@ -3,7 +3,7 @@ ghost use Rattle.std.specs.Prelude.{◌≡◌, ◌≤◌, length};
 ghost use Rattle.xbus.specs.Front.{front_of};
 ghost use Rattle.stream.specs.Settling.{dropped, settled, front_by, Settles};
 
-use xbus::{Front, at_front};
+use xbus::{Front, START, at_front};
 
 // How many bytes are dropped, and the size of the whole frame behind them, if there is one.
 #[derive(Clone, Copy, Debug, PartialEq)]
@@ -20,6 +20,10 @@ pub fn settle(bytes: &[u8]) -> Settled
     ensures settles { Settles bytes.now (dropped bytes.now) }
 {
     for start in 0..bytes.len() {
+        // Most starts that are wrong are so by their first byte.
+        if bytes[start] != START {
+            continue;
+        }
         let whole = match at_front(&bytes[start..]) {
             Front::Whole(size) => Some(size),
             Front::Waits => None,

@@ -9,7 +9,7 @@ ghost use Rattle.stream.specs.Waiting.{held, taking, took, passed};
 use crate::buffer::Waiting;
 use crate::settling::settle;
 use crate::until::waits_until;
-use xbus::{Frame, LONGEST, START, first_frame};
+use xbus::{Frame, LONGEST, START, split_frame};
 
 // A whole frame waits, and no byte is taken before it is passed.
 #[derive(Clone, Copy, Debug, PartialEq)]
@@ -47,6 +47,8 @@ impl Waiting {
     }
 
     // Keeps what is settled of the bytes from `from` to `end`, and moves it to the front once.
+    // Out of line: it is long, and most bytes are taken without it.
+    #[inline(never)]
     fn keep(&mut self, from: usize, end: usize)
         requires { (from ≤ end) × (end ≤ 2055) }
         ensures { held self.new ≡ settled (drop from (take end self.old.bytes)) }
@@ -59,18 +61,13 @@ impl Waiting {
         self.until = waits_until(&self.bytes[..end - start]);
     }
 
-    // Puts a byte behind the others and settles. While too few are there, nothing is to be settled.
+    // Puts a byte behind the others and settles.
     fn push(&mut self, byte: u8)
         requires { self.old.whole ≡ None }
         ensures { held self.new ≡ settled (held self.old ++ (byte ∷ [])) }
     {
-        let end = self.len + 1;
         self.bytes[self.len] = byte;
-        if end < self.until {
-            self.len = end;
-        } else {
-            self.keep(0, end);
-        }
+        self.keep(0, self.len + 1);
     }
 
     // Takes one byte more and settles, unless a whole frame waits.
@@ -78,6 +75,13 @@ impl Waiting {
         ensures value { result ≡ taking (held self.old) }
         ensures after { held self.new ≡ took (held self.old) byte }
     {
+        // While too few are there, no whole frame waits, and nothing is to be settled.
+        let end = self.len + 1;
+        if end < self.until {
+            self.bytes[self.len] = byte;
+            self.len = end;
+            return Ok(());
+        }
         if self.whole.is_some() {
             return Err(FrameWaits);
         }
@@ -93,7 +97,7 @@ impl Waiting {
         ensures { option_map seen result ≡ first_parts (held self.now) }
     {
         match self.whole {
-            Some(_) => first_frame(self.bytes()),
+            Some(size) => split_frame(&self.bytes[0..size]),
             None => None,
         }
     }

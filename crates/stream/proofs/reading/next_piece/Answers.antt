@@ -1,3 +1,4 @@
+-- The next piece is dropped bytes, a whole frame, what is left, or none, by what settling finds.
 use Rattle.std.proofs.Common.{sym, ap, ◌∙◌, arith}
 use Rattle.std.proofs.lemmas.List.{take_all, drop_all}
 use Rattle.std.proofs.lemmas.Bool.{eqb-true, eqb-false}

@@ -1,3 +1,4 @@
+-- A start that is wrong is dropped, and the first other one, or the end, is settled.
 use Rattle.std.proofs.Common.{◌≡◌, drop, None, sym, ap, ◌∙◌, arith}
 use Rattle.std.proofs.lemmas.List.{take_rest, drop_all}
 use Rattle.xbus.specs.Front.{front_of}

@@ -1,3 +1,4 @@
+-- The starts so far begin no frame.
 use Rattle.stream.proofs.Settles.{Reached}
 use Rattle.stream.proofs.settling.settle.Given as goal
 

@@ -1,3 +1,4 @@
+-- What is settled moves to the front, so that a whole frame of the size noted stands there, or the rest waits.
 use Rattle.std.proofs.Common.{◌∙◌, arith, rules}
 use Rattle.stream.proofs.Keeps.{kept, kept_front, kept_waits}
 use Rattle.stream.proofs.buffer.Waiting.keep.Goals as goal

@@ -1,3 +1,4 @@
+-- The frame at the front lies within the bytes held, and those behind it are settled.
 use Rattle.stream.specs.Waiting.{held}
 use Rattle.stream.proofs.Holds.{whole_within, passed_some}
 use Rattle.stream.proofs.buffer.Waiting.pass.Goals as goal
