@@ -1,13 +1,12 @@
 -- The frame of a message: what is read of a frame, and what it is that is read, or why it is refused.
-use Rattle.std.proofs.Common.{◌≡◌, ℕ, ◌+◌, ◌*◌, ◌/◌, ◌%◌, ◌<◌, ◌≤◌, true, false, ◌&&◌, eqb, ltb, leb, ◌⊎◌, List, [], ◌∷◌, ◌++◌, length, get_or, take, drop, Ok, Err, Result, sym, refl, ap, ◌∙◌, subst, inl, inr, ⊎_elim, arith}
+use Rattle.std.proofs.Common.{◌≡◌, ℕ, ◌+◌, ◌*◌, ◌/◌, ◌%◌, ◌<◌, ◌≤◌, true, false, ◌&&◌, eqb, leb, ◌⊎◌, List, [], ◌∷◌, ◌++◌, length, get_or, take, drop, Ok, Err, Result, sym, refl, ap, ◌∙◌, subst, inl, inr, ⊎_elim, arith}
 use Rattle.std.proofs.lemmas.List.{append_assoc, length-append, length-take-le, take_all, take_at, take_more, drop_at}
-use Rattle.std.proofs.lemmas.Bool.{leb-true, leb-false, eqb-true, eqb-false, eq-eqb, lt-ltb, le-ltb, le-leb, lt-leb, cond-true, cond-false, cases_lt, cases_Bool, and_parts, and_cases, and_from}
+use Rattle.std.proofs.lemmas.Bool.{leb-true, leb-false, eqb-true, eqb-false, eq-eqb, le-leb, lt-leb, cond-true, cond-false, cases_lt, cases_Bool, and_parts, and_cases, and_from}
 use Rattle.xbus.specs.Numbers.{Bytes}
 use Rattle.xbus.specs.Front.{total}
 use Rattle.xbus.specs.Frames.{header_of, checksum, enclosed, encoded}
-use Rattle.xbus.specs.Writing.{frame_size, content_start}
 use Rattle.xbus.proofs.Bytes.{bytes_at, bytes_take}
-use Rattle.xbus.proofs.Cases.{length_short, length_long, length_is_long, length_enclosed, checksum_sums, checksum_is}
+use Rattle.xbus.proofs.Headers.{length_short, length_long, length_is_long, length_enclosed, checksum_sums, checksum_is}
 use Rattle.mtdata2.specs.Faults.{Report, frame_fault}
 use Rattle.mtdata2.specs.Reading.{Parts, body_of, extended_of, started_of, frame_of}
 use Rattle.mtdata2.specs.Words.{data_start, Announces, Tells, empty, other_start, header_cut, length_ruled_out, other_length, wrong_checksum}
@@ -140,29 +139,25 @@ body_back hd d a i start starts =
     ∙ cond-true (eqb (total (drop 1 xs) % 256) 0) _ _ (eq-eqb _ 0 (checksum_sums (hd ++ d)))
     ∙ ap (λ z. Ok (record { address = a; identifier = i; start = start; content = z })) same
 
-pub frame_back : (a i : ℕ) (d : List ℕ) → length d ≤ 2048 → frame_of (encoded a i d) ≡ Ok (parts_from a i d)
-frame_back a i d h =
-    let n : ℕ = length d in
-    let P : List ℕ → Type 0 = λ z. frame_of (enclosed ((a ∷ i ∷ z) ++ d)) ≡ Ok (record { address = a; identifier = i; start = length (0xFA ∷ a ∷ i ∷ z); content = d }) in
+-- a header that announces n data bytes, which the frame has room for
+pub announced : (a i n : ℕ) (t : List ℕ) → n ≤ 2048 → frame_of (0xFA ∷ (header_of a i n ++ t)) ≡ body_of a i (data_start a i n) n (0xFA ∷ (header_of a i n ++ t))
+announced a i n t h =
+    let P : List ℕ → Type 0 = λ z. frame_of (0xFA ∷ a ∷ i ∷ (z ++ t)) ≡ body_of a i (length (0xFA ∷ a ∷ i ∷ z)) n (0xFA ∷ a ∷ i ∷ (z ++ t)) in
     ⊎_elim
-    (λ l.
-    subst P (sym (length_short n l))
-    (cond-false (leb 255 n) _ _ (lt-leb 255 n l) ∙ body_back (a ∷ i ∷ n ∷ []) d a i 4 refl))
+    (λ l. subst P (sym (length_short n l)) (cond-false (leb 255 n) _ _ (lt-leb 255 n l)))
     (λ l.
     let v : ℕ = n / 256 * 256 + n % 256 in
     let same : v ≡ n = omega arith in
-    let hd : List ℕ = a ∷ i ∷ 0xFF ∷ n / 256 ∷ n % 256 ∷ [] in
+    let xs : List ℕ = 0xFA ∷ a ∷ i ∷ 0xFF ∷ n / 256 ∷ n % 256 ∷ t in
     let fit = and_from (leb 255 v) (leb v 2048) (le-leb 255 v (omega arith)) (le-leb v 2048 (omega arith)) in
-    subst P (sym (length_is_long n l h))
-    (cond-true (leb 255 v && leb v 2048) _ _ fit ∙ ap (λ k. body_of a i 6 k (enclosed (hd ++ d))) same ∙ body_back hd d a i 6 refl))
+    subst P (sym (length_is_long n l h)) (cond-true (leb 255 v && leb v 2048) _ _ fit ∙ ap (λ k. body_of a i 6 k xs) same))
     (cases_lt n 255)
 
--- ---- sizes
-
--- what stands around n data bytes
-pub frame_parts : (n : ℕ) → frame_size n ≡ content_start n + n + 1
-frame_parts n =
-    ⊎_elim
-    (λ l. let t = lt-ltb n 255 l in omega (arith, cond-true {A = ℕ} (ltb n 255) 4 6 t, cond-true {A = ℕ} (ltb n 255) (n + 5) (n + 7) t))
-    (λ l. let t = le-ltb n 255 l in omega (arith, cond-false {A = ℕ} (ltb n 255) 4 6 t, cond-false {A = ℕ} (ltb n 255) (n + 5) (n + 7) t))
-    (cases_lt n 255)
+pub frame_back : (a i : ℕ) (d : List ℕ) → length d ≤ 2048 → frame_of (encoded a i d) ≡ Ok (parts_from a i d)
+frame_back a i d h =
+    let n : ℕ = length d in
+    let hd : List ℕ = header_of a i n in
+    let c : List ℕ = checksum (hd ++ d) ∷ [] in
+    let e : encoded a i d ≡ 0xFA ∷ (hd ++ (d ++ c)) = ap (λ z. 0xFA ∷ z) (append_assoc hd d c) in
+    ap frame_of e ∙ announced a i n (d ++ c) h ∙ ap (body_of a i (data_start a i n) n) (sym e)
+    ∙ body_back hd d a i (data_start a i n) refl

@@ -1,3 +1,5 @@
 pub mod Runs
 pub mod Frames
-pub mod Rounds
+pub mod Cuts
+pub mod Messages
+pub mod Firsts

@@ -25,20 +25,21 @@ body_of a i start n xs =
     (frame_fault 17 (length xs - 1)))
     (frame_fault 15 (length xs))
 
--- xs is FA, an address, an identifier, FF and then the list in front
+-- the frame that xs is, where the first list is what follows FA, an address, an identifier and FF
 abbrev pub extended_of : ℕ → ℕ → List ℕ → List ℕ → Result Parts Report
 extended_of a i [] xs = frame_fault 15 (length xs)
 extended_of a i (h ∷ []) xs = frame_fault 15 (length xs)
 extended_of a i (h ∷ l ∷ rest) xs =
     cond (nat_le 255 (h * 256 + l) && nat_le (h * 256 + l) 2048) (body_of a i 6 (h * 256 + l) xs) (frame_fault 16 4)
 
--- xs is FA and then the list in front
+-- the frame that xs is, where the first list is what follows FA
 abbrev pub started_of : List ℕ → List ℕ → Result Parts Report
 started_of [] xs = frame_fault 15 (length xs)
 started_of (a ∷ []) xs = frame_fault 15 (length xs)
 started_of (a ∷ i ∷ []) xs = frame_fault 15 (length xs)
 started_of (a ∷ i ∷ n ∷ rest) xs = cond (nat_le 255 n) (extended_of a i rest xs) (body_of a i 4 n xs)
 
+-- the frame that xs is, or its first fault
 abbrev pub frame_of : List ℕ → Result Parts Report
 frame_of [] = frame_fault 14 0
 frame_of (x ∷ rest) = cond (x == 0xFA) (started_of rest (x ∷ rest)) (frame_fault 14 0)
@@ -52,6 +53,7 @@ addressed b =
     (cond (b.identifier == 0x36) (cond (length b.content == 0) (message_fault 19 b.start) (Ok b)) (message_fault 18 2))
     (message_fault 18 1)
 
+-- the data message that xs is, or its first fault
 abbrev pub message_of : List ℕ → Result Parts Report
 message_of xs = and_then (frame_of xs) addressed
 

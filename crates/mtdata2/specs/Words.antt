@@ -45,6 +45,7 @@ pub record Announces (xs : List ℕ) (start n : ℕ) : Type 0 where
 pub record Behind (xs : List ℕ) (rest : List ℕ) (p : ℕ) : Type 0 where
   pub items : List Item
   pub well_formed : EachWellFormed items
+  pub short : length (flat_map packet_bytes items ++ rest) ≤ 2048
   pub is : xs ≡ encoded 0xFF 0x36 (flat_map packet_bytes items ++ rest)
   pub place : p ≡ data_start 0xFF 0x36 (length (flat_map packet_bytes items ++ rest)) + length (flat_map packet_bytes items)
 
@@ -71,8 +72,10 @@ pub data Tells (xs : List ℕ) : Report → Type 0 where
   content_cut : (h l n : ℕ) (rest : List ℕ) (p : ℕ) → Behind xs (h ∷ l ∷ n ∷ rest) p → length rest < n → Tells xs (report 21 layer.Packet (p + 2))
   wrong_size : (h l n : ℕ) (rest : List ℕ) (p s : ℕ) → Behind xs (h ∷ l ∷ n ∷ rest) p → n ≤ length rest → data_size_of (h * 256 + l) ≡ Some s → (n ≢ s) → Tells xs (report 22 layer.Packet (p + 2))
 
--- a message is accepted exactly if it is that of some packets, and then these are read; a fault tells why it is not
+-- a message is accepted exactly if it is that of some packets, and then these are read; a fault comes exactly if the input
+-- tells it, so that an input tells one fault at most
 pub record ReadSaid (xs : List ℕ) : Type 0 where
   pub accepted : (items : List Item) → read_of xs ≡ Ok items → MessageOf xs items
   pub accepts : (items : List Item) → MessageOf xs items → read_of xs ≡ Ok items
   pub refused : (f : Report) → read_of xs ≡ Err f → Tells xs f
+  pub refuses : (f : Report) → Tells xs f → read_of xs ≡ Err f

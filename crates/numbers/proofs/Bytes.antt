@@ -1,20 +1,17 @@
 -- The bytes of a reading: how many, each below 256, and the number that they stand for.
-use Rattle.std.proofs.Common.{◌≡◌, ℕ, zero, suc, ◌^◌, ◌<◌, true, false, T, length, ℤ, pos, negsuc, ◌∙◌, mod-lt, mod-eq_of_lt, arith, lit<}
+use Rattle.std.proofs.Common.{◌≡◌, suc, ◌^◌, ◌<◌, true, false, T, length, ℤ, pos, negsuc, arith}
 use lib.Ieee.{Format, binary32, binary64, fits}
 use lib.Ieee.Bits.{to_bits-lt}
 use lib.Ieee.Fits.{round-fits}
 use Rattle.std.specs.Int.{saturate_to_bits}
-use Rattle.xbus.specs.Numbers.{Bytes, be, number_of}
-use Rattle.xbus.proofs.Widths.{length_be, number_be}
+use Rattle.xbus.specs.Numbers.{Bytes, number_of}
+use Rattle.xbus.proofs.Bytes.{bytes_be}
+use Rattle.xbus.proofs.Widths.{length_be, be_back}
 use Rattle.mti.specs.Precisions.{width_of}
 use Rattle.mti.specs.declared.precision.Precision.{Precision}
 use Rattle.mti.specs.declared.precision.Precision.TheVariants.{Single, Fixed32, Fixed48, Double}
 use Rattle.numbers.specs.Steps.{steps}
 use Rattle.numbers.specs.Encoding.{twos, rounded, code_of, encoded}
-
-bytes_be : (k n : ℕ) → Bytes (be k n)
-bytes_be zero n = tt
-bytes_be (suc k) n = (mod-lt _ (lit< tt), bytes_be k n)
 
 pub encoded_length : (p : Precision) (v : ℤ) → length (encoded p v) ≡ width_of p
 unfolding encoded
@@ -45,4 +42,4 @@ code_lt Double v = to_bits-lt binary64 (rounded binary64 v) (rounded_fits binary
 
 pub encoded_number : (p : Precision) (v : ℤ) → number_of (encoded p v) ≡ code_of p v
 unfolding encoded
-encoded_number p v = number_be (width_of p) (code_of p v) ∙ mod-eq_of_lt (code_lt p v)
+encoded_number p v = be_back (width_of p) (code_of p v) (code_lt p v)

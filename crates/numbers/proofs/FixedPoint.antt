@@ -1,5 +1,5 @@
 -- Fixed point: the rounding to steps, and two's complement read back.
-use Rattle.std.proofs.Common.{◌≡◌, ℕ, suc, ◌-◌, ◌*◌, ◌%◌, ◌^◌, ◌<◌, ◌≤◌, true, false, cond, ltb, ℤ, pos, negsuc, neg_ℤ, nat_abs, refl, ap, ◌∙◌, arith}
+use Rattle.std.proofs.Common.{◌≡◌, ℕ, suc, ◌-◌, ◌*◌, ◌%◌, ◌^◌, ◌<◌, ◌≤◌, true, false, cond, ltb, ℤ, pos, negsuc, neg_ℤ, nat_abs, sym, refl, ap, ◌∙◌, subst, arith}
 use lib.Signed.{mag}
 use Rattle.std.specs.Int.{saturate_to_bits, int_rem_euclid}
 use Rattle.std.proofs.lemmas.Int.{ints}
@@ -8,7 +8,7 @@ use Rattle.xbus.specs.Numbers.{number_of}
 use Rattle.mti.specs.declared.precision.Precision.TheVariants.{Fixed32, Fixed48}
 use Rattle.numbers.specs.Steps.{steps, Floor}
 use Rattle.numbers.specs.Encoding.{in_range, twos, code_of, encoded}
-use Rattle.numbers.specs.Meanings.{signed_of}
+use Rattle.numbers.specs.Meanings.{signed_of, Held}
 use Rattle.numbers.proofs.Ranges.{in_range_size}
 use Rattle.numbers.proofs.Bytes.{encoded_number}
 
@@ -42,9 +42,27 @@ held_size : (z : ℤ) → mag (saturate_to_bits 31 z) < 2 ^ 31
 held_size (pos n) = omega arith
 held_size (negsuc n) = omega arith
 
-pub fixed32_back : (v : ℤ) → signed_of 4 (number_of (encoded Fixed32 v)) ≡ saturate_to_bits 31 (steps v)
+fixed32_back : (v : ℤ) → signed_of 4 (number_of (encoded Fixed32 v)) ≡ saturate_to_bits 31 (steps v)
 unfolding code_of
 fixed32_back v = ap (signed_of 4) (encoded_number Fixed32 v) ∙ signed4 (saturate_to_bits 31 (steps v)) (held_size (steps v))
+
+-- the steps in words
+
+held : (s : ℤ) → Held s (saturate_to_bits 31 s)
+held (pos n) = record {
+  same = λ l h. omega (arith, ints);
+  below = λ h. omega (arith, ints);
+  above = λ h. omega (arith, ints);
+}
+held (negsuc n) = record {
+  same = λ l h. omega (arith, ints);
+  below = λ h. omega (arith, ints);
+  above = λ h. omega (arith, ints);
+}
+
+pub fixed32_held : (v s : ℤ) → Floor v s → Held s (signed_of 4 (number_of (encoded Fixed32 v)))
+fixed32_held v s f =
+    subst (λ (w : ℤ). Held s w) (ap (saturate_to_bits 31) (steps_only v s f) ∙ sym (fixed32_back v)) (held s)
 
 pub fixed48_back : (v : ℤ) → in_range v ≡ true → signed_of 6 (number_of (encoded Fixed48 v)) ≡ v
 unfolding code_of

@@ -6,7 +6,7 @@ use Rattle.mti.specs.declared.precision.Precision.{Precision}
 use Rattle.numbers.specs.Encoding.{code_of, encoded}
 use Rattle.numbers.specs.Meanings.{Meanings}
 use Rattle.numbers.proofs.Bytes.{encoded_length, encoded_bytes}
-use Rattle.numbers.proofs.FixedPoint.{steps_floor, steps_only, fixed32_back, fixed48_back}
+use Rattle.numbers.proofs.FixedPoint.{steps_floor, steps_only, fixed32_held, fixed48_back}
 use Rattle.numbers.proofs.Worths.{single_nearest, double_exact}
 use Rattle.numbers.proofs.Rows.{worked, zero_bits}
 
@@ -25,7 +25,7 @@ meanings = record {
   double = double_exact;
   floor = steps_floor;
   floor_only = steps_only;
-  fixed32 = fixed32_back;
+  fixed32 = fixed32_held;
   fixed48 = fixed48_back;
   zero = zero_bits;
   worked = worked;

@@ -1,7 +1,6 @@
 -- What the bytes of a reading mean in each precision.
-use Rattle.std.specs.Prelude.{◌≡◌, ℕ, ◌-◌, ◌*◌, ◌^◌, true, cond, length, replicate, ℤ, pos, neg_ℤ, nat_lt}
+use Rattle.std.specs.Prelude.{◌≡◌, ℕ, ◌-◌, ◌*◌, ◌^◌, true, cond, length, replicate, ℤ, pos, negsuc, neg_ℤ, ◌≤ℤ◌, ◌<ℤ◌, nat_lt}
 use Rattle.std.specs.Float.{binary32, binary64}
-use Rattle.std.specs.Int.{saturate_to_bits}
 use Rattle.xbus.specs.Numbers.{Bytes, number_of}
 use Rattle.mti.specs.Precisions.{width_of}
 use Rattle.mti.specs.declared.precision.Precision.{Precision}
@@ -15,6 +14,12 @@ use Rattle.numbers.specs.Worth.{Nearest, Exact}
 abbrev pub signed_of : ℕ → ℕ → ℤ
 signed_of k n = cond (nat_lt (n * 2) (256 ^ k)) (pos n) (neg_ℤ (pos (256 ^ k - n)))
 
+-- w is s, or the least or the greatest of -2 ^ 31 .. 2 ^ 31 - 1 where s is below or above them
+pub record Held (s w : ℤ) : Type 0 where
+  pub same : negsuc (2 ^ 31 - 1) ≤ℤ s → s ≤ℤ pos (2 ^ 31 - 1) → w ≡ s
+  pub below : s <ℤ negsuc (2 ^ 31 - 1) → w ≡ negsuc (2 ^ 31 - 1)
+  pub above : pos (2 ^ 31 - 1) <ℤ s → w ≡ pos (2 ^ 31 - 1)
+
 pub record Meanings : Type 0 where
   -- bytes, as many as the precision has
   pub size : (p : Precision) (v : ℤ) → length (encoded p v) ≡ width_of p
@@ -26,8 +31,8 @@ pub record Meanings : Type 0 where
   -- the steps are the whole ones at or below the reading
   pub floor : (v : ℤ) → Floor v (steps v)
   pub floor_only : (v s : ℤ) → Floor v s → s ≡ steps v
-  -- four bytes are the steps, held to -2 ^ 31 .. 2 ^ 31 - 1
-  pub fixed32 : (v : ℤ) → signed_of 4 (number_of (encoded Fixed32 v)) ≡ saturate_to_bits 31 (steps v)
+  -- four bytes are the whole steps at or below the reading, held to the range of a signed number of 32 bits
+  pub fixed32 : (v s : ℤ) → Floor v s → Held s (signed_of 4 (number_of (encoded Fixed32 v)))
   -- six bytes are the reading itself
   pub fixed48 : (v : ℤ) → in_range v ≡ true → signed_of 6 (number_of (encoded Fixed48 v)) ≡ v
   -- all bits of zero are 0

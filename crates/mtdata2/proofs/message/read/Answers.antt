@@ -1,6 +1,7 @@
+-- What is read is the reading of the frame and its packets, and it is as the words say.
 use Rattle.xbus.proofs.Bytes.{bytes_typed}
 use Rattle.mtdata2.specs.Reading.{parts}
-use Rattle.mtdata2.proofs.Rounds.{read_said}
+use Rattle.mtdata2.proofs.Firsts.{read_said}
 use Rattle.mtdata2.proofs.Runs.{read_is}
 use Rattle.mtdata2.proofs.message.read.Goals as goal
 

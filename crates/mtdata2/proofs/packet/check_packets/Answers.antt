@@ -1,3 +1,4 @@
+-- A packet that is cut off leaves less, and the answer for all is that for what is left.
 use Rattle.std.proofs.Common.{◌∙◌, ◌+◌, ◌-◌, length, arith}
 use Rattle.mtdata2.proofs.Runs.{cut_less, stepped}
 use Rattle.mtdata2.proofs.packet.check_packets.Goals as goal

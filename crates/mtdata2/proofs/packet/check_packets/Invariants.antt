@@ -1,8 +1,8 @@
+-- What is left decides the answer, and grows shorter.
 use Rattle.std.proofs.Common.{◌≡◌, ◌-◌, ◌≤◌, length}
 use Rattle.mtdata2.specs.Packets.{packets_from, done}
 use Rattle.mtdata2.proofs.packet.check_packets.Given as goal
 
--- what is left decides
 abbrev pub invariant-loop-rest : goal.invariant-loop-rest
 invariant-loop-rest l =
     (length l.rest ≤ length l.content) ×

@@ -1,3 +1,4 @@
+-- The packet that is cut off is the first of those that are handed out.
 use Rattle.std.proofs.Common.{◌≡◌, rules}
 use Rattle.std.specs.Option.{option_map}
 use Rattle.mtdata2.specs.Packets.{cut_seen, ok_of, cut_of}

@@ -1,17 +1,15 @@
--- Packets and messages: what is read is composed of these packets, what is composed is read, and what a fault tells.
-use Rattle.std.proofs.Common.{◌≡◌, ℕ, zero, suc, ◌+◌, ◌-◌, ◌*◌, ◌/◌, ◌%◌, ◌<◌, ◌≤◌, true, false, eqb, ltb, List, [], ◌∷◌, ◌++◌, length, take, drop, Some, None, Ok, Err, Option, Result, sym, refl, ap, ◌∙◌, subst, ⊎_elim, arith}
+-- Packets: those that are cut off are well-formed and make the content, or a fault tells what is wrong; well-formed ones are cut off again.
+use Rattle.std.proofs.Common.{◌≡◌, ℕ, zero, suc, ◌+◌, ◌-◌, ◌*◌, ◌/◌, ◌%◌, ◌<◌, ◌≤◌, true, false, ltb, List, [], ◌∷◌, ◌++◌, length, take, drop, Some, None, Ok, Err, Option, Result, sym, refl, ap, ◌∙◌, subst, ⊎_elim, arith}
 use Rattle.std.specs.List.{flat_map}
-use Rattle.std.proofs.lemmas.List.{append_assoc, length-append, length-take-le, take-append-drop, take_at, drop_at, flat_map_more, nil_from_length}
-use Rattle.std.proofs.lemmas.Bool.{ltb-true, ltb-false, le-ltb, eqb-true, eqb-false, eq-eqb, cond-true, cond-false, cases_Bool, true≢false, ne_eqb}
+use Rattle.std.proofs.lemmas.List.{append_assoc, length-append, length-take-le, take-append-drop, take_at, drop_at, flat_map_more}
+use Rattle.std.proofs.lemmas.Bool.{ltb-true, ltb-false, le-ltb, eqb-true, eqb-false, eq-eqb, cond-true, cond-false, cases_Bool, true≢false}
 use Rattle.xbus.specs.Numbers.{Bytes}
 use Rattle.xbus.specs.Frames.{encoded}
 use Rattle.xbus.proofs.Bytes.{bytes_take, bytes_drop}
 use Rattle.mti.specs.Identifiers.{data_size_of}
-use Rattle.mtdata2.specs.Faults.{Report, packet_fault, message_fault, and_then}
+use Rattle.mtdata2.specs.Faults.{Report, packet_fault, and_then}
 use Rattle.mtdata2.specs.Packets.{Item, fits_by, size_fits, item_of, cut_by, cut_of, packets_from, packet_bytes, WellFormed, EachWellFormed}
-use Rattle.mtdata2.specs.Reading.{Parts, frame_of, addressed, message_of, read_of}
-use Rattle.mtdata2.specs.Words.{data_start, MessageOf, Behind, Tells, other_address, other_identifier, no_packet, packet_cut, content_cut, wrong_size, ReadSaid}
-use Rattle.mtdata2.proofs.Frames.{Framed, Told, told_frame, parts_from, frame_back}
+use Rattle.mtdata2.specs.Words.{data_start, Behind, Tells, packet_cut, content_cut, wrong_size}
 use Rattle.mtdata2.proofs.Runs.{good_cut}
 
 -- ---- one packet
@@ -54,7 +52,7 @@ module _ (h l n : ℕ) (xs : List ℕ) (hb : h < 256) (lb : l < 256) (nb : n < 2
       }
 
 -- a well-formed packet is cut off
-cut_back : (p : ℕ) (i : Item) (rest : List ℕ) → WellFormed i → cut_of p (packet_bytes i ++ rest) ≡ Ok (i, rest)
+pub cut_back : (p : ℕ) (i : Item) (rest : List ℕ) → WellFormed i → cut_of p (packet_bytes i ++ rest) ≡ Ok (i, rest)
 cut_back p i rest w =
     let id : ℕ = i.identifier in
     let n : ℕ = length i.bytes in
@@ -72,7 +70,7 @@ cut_back p i rest w =
 
 -- ---- all packets
 
-packets_back : (k p : ℕ) (items : List Item) → EachWellFormed items → length (flat_map packet_bytes items) ≤ k → packets_from k p (flat_map packet_bytes items) ≡ Ok items
+pub packets_back : (k p : ℕ) (items : List Item) → EachWellFormed items → length (flat_map packet_bytes items) ≤ k → packets_from k p (flat_map packet_bytes items) ≡ Ok items
 packets_back k p [] w h = refl
 packets_back zero p (i ∷ is) w h = absurd (omega arith)
 packets_back (suc k) p (i ∷ is) w h =
@@ -87,12 +85,13 @@ well_formed_push [] i ws w = (w, tt)
 well_formed_push (j ∷ is) i ws w = (ws.0, well_formed_push is i ws.1 w)
 
 -- xs is a data message with this content, which starts there
-module _ (xs content : List ℕ) (start : ℕ) (is : xs ≡ encoded 0xFF 0x36 content) (starts : start ≡ data_start 0xFF 0x36 (length content)) where
+module _ (xs content : List ℕ) (start : ℕ) (is : xs ≡ encoded 0xFF 0x36 content) (starts : start ≡ data_start 0xFF 0x36 (length content)) (few : length content ≤ 2048) where
   -- well-formed packets and then the rest make the content
   behind : (items : List Item) (rest : List ℕ) (p : ℕ) → EachWellFormed items → content ≡ flat_map packet_bytes items ++ rest → p ≡ start + length (flat_map packet_bytes items) → Behind xs rest p
   behind items rest p w c e = record {
     items = items;
     well_formed = w;
+    short = omega (arith, few, ap length c);
     is = is ∙ ap (encoded 0xFF 0x36) c;
     place = e ∙ ap (λ k. k + length (flat_map packet_bytes items)) (starts ∙ ap (λ d. data_start 0xFF 0x36 (length d)) c);
   }
@@ -133,7 +132,7 @@ module _ (xs content : List ℕ) (start : ℕ) (is : xs ≡ encoded 0xFF 0x36 co
       (cases_Bool (ltb (length ys) n))
 
   -- the rest is these well-formed packets, or a fault
-  abbrev PacketsTold : List ℕ → Result (List Item) Report → Type 0
+  abbrev pub PacketsTold : List ℕ → Result (List Item) Report → Type 0
   PacketsTold rest (Ok items) = EachWellFormed items × (flat_map packet_bytes items ≡ rest)
   PacketsTold rest (Err f) = Tells xs f
 
@@ -145,7 +144,7 @@ module _ (xs content : List ℕ) (start : ℕ) (is : xs ≡ encoded 0xFF 0x36 co
   told_step k p rest (Ok q) c f = told_more rest q c _ (f q c)
   told_step k p rest (Err e) c f = c
 
-  told_packets : (k p : ℕ) (items : List Item) (rest : List ℕ) → length rest ≤ k → EachWellFormed items → Bytes rest → content ≡ flat_map packet_bytes items ++ rest → p ≡ start + length (flat_map packet_bytes items) → PacketsTold rest (packets_from k p rest)
+  pub told_packets : (k p : ℕ) (items : List Item) (rest : List ℕ) → length rest ≤ k → EachWellFormed items → Bytes rest → content ≡ flat_map packet_bytes items ++ rest → p ≡ start + length (flat_map packet_bytes items) → PacketsTold rest (packets_from k p rest)
   told_packets k p items [] h w bs c e = (tt, refl)
   told_packets zero p items (x ∷ ys) h w bs c e = absurd (omega arith)
   told_packets (suc k) p items (x ∷ ys) h w bs c e =
@@ -159,112 +158,3 @@ module _ (xs content : List ℕ) (start : ℕ) (is : xs ≡ encoded 0xFF 0x36 co
       (omega arith) (well_formed_push items q.0 w d.well_formed) d.bytes
       (c ∙ ap (λ l. flat_map packet_bytes items ++ l) d.is_rest ∙ sym (append_assoc (flat_map packet_bytes items) (packet_bytes q.0) q.1) ∙ ap (λ l. l ++ q.1) more)
       (omega arith))
-
--- ---- the message
-
--- xs is a data message of these parts
-record Data (xs : List ℕ) (p : Parts) : Type 0 where
-  pub framed : Framed xs p
-  pub address : p.address ≡ 0xFF
-  pub identifier : p.identifier ≡ 0x36
-  pub some : length p.content ≡ 0 → ⊥
-
-abbrev DataTold : List ℕ → Result Parts Report → Type 0
-DataTold xs (Ok p) = Data xs p
-DataTold xs (Err f) = Tells xs f
-
-told_empty : (xs : List ℕ) (p : Parts) → Framed xs p → p.address ≡ 0xFF → p.identifier ≡ 0x36 → length p.content ≡ 0 → DataTold xs (message_fault 19 p.start)
-told_empty xs p f a i z =
-    let none : p.content ≡ [] = nil_from_length p.content z in
-    let four : p.start ≡ 4 = f.starts ∙ (λ k. data_start (a k) (i k) (z k)) in
-    subst (λ k. DataTold xs (message_fault 19 k)) (sym four) (no_packet (f.is ∙ (λ k. encoded (a k) (i k) (none k))))
-
-told_addressed : (xs : List ℕ) (p : Parts) → Framed xs p → DataTold xs (addressed p)
-told_addressed xs p f =
-    let a = p.address in
-    let i = p.identifier in
-    let d = p.content in
-    ⊎_elim
-    (λ (s : eqb a 0xFF ≡ true).
-    let ea = eqb-true a 0xFF s in
-    ⊎_elim
-    (λ (t : eqb i 0x36 ≡ true).
-    let ei = eqb-true i 0x36 t in
-    ⊎_elim
-    (λ (u : eqb (length d) 0 ≡ true).
-    subst (DataTold xs) (sym (cond-true _ _ _ s ∙ cond-true _ _ _ t ∙ cond-true _ _ _ u)) (told_empty xs p f ea ei (eqb-true _ 0 u)))
-    (λ (u : eqb (length d) 0 ≡ false).
-    subst (DataTold xs) (sym (cond-true _ _ _ s ∙ cond-true _ _ _ t ∙ cond-false _ _ _ u))
-    (record { framed = f; address = ea; identifier = ei; some = eqb-false _ 0 u }))
-    (cases_Bool (eqb (length d) 0)))
-    (λ (t : eqb i 0x36 ≡ false).
-    subst (DataTold xs) (sym (cond-true _ _ _ s ∙ cond-false _ _ _ t))
-    (other_identifier i d (f.is ∙ ap (λ k. encoded k i d) ea) f.short (eqb-false i 0x36 t)))
-    (cases_Bool (eqb i 0x36)))
-    (λ (s : eqb a 0xFF ≡ false).
-    subst (DataTold xs) (sym (cond-false _ _ _ s)) (other_address a i d f.is f.short (eqb-false a 0xFF s)))
-    (cases_Bool (eqb a 0xFF))
-
-told_message : (xs : List ℕ) (r : Result Parts Report) → Told xs r → DataTold xs (and_then r addressed)
-told_message xs (Ok p) t = told_addressed xs p t
-told_message xs (Err f) t = t
-
--- ---- all of it
-
-abbrev ReadTold : List ℕ → Result (List Item) Report → Type 0
-ReadTold xs (Ok items) = MessageOf xs items
-ReadTold xs (Err f) = Tells xs f
-
-module _ (xs : List ℕ) (p : Parts) (d : Data xs p) where
-  content_is : xs ≡ encoded 0xFF 0x36 p.content
-  content_is = d.framed.is ∙ (λ k. encoded (d.address k) (d.identifier k) p.content)
-
-  content_starts : p.start ≡ data_start 0xFF 0x36 (length p.content)
-  content_starts = d.framed.starts ∙ (λ k. data_start (d.address k) (d.identifier k) (length p.content))
-
-  some_items : (items : List Item) → flat_map packet_bytes items ≡ p.content → 0 < length items
-  some_items [] e = absurd (d.some (ap length (sym e)))
-  some_items (i ∷ is) e = omega arith
-
-  read_told : (r : Result (List Item) Report) → PacketsTold xs p.content p.start content_is content_starts p.content r → ReadTold xs r
-  read_told (Ok items) t = record {
-    some = some_items items t.1;
-    well_formed = t.0;
-    short = omega (arith, ap length t.1, d.framed.short);
-    is = content_is ∙ ap (encoded 0xFF 0x36) (sym t.1);
-  }
-  read_told (Err f) t = t
-
-  packets_told : ReadTold xs (packets_from (length p.content) p.start p.content)
-  packets_told =
-      read_told _
-      (told_packets xs p.content p.start content_is content_starts (length p.content) p.start [] p.content
-      (omega arith) tt d.framed.bytes refl (omega arith))
-
-told_read : (xs : List ℕ) (r : Result Parts Report) → DataTold xs r → ReadTold xs (and_then r (λ m. packets_from (length m.content) m.start m.content))
-told_read xs (Ok p) d = packets_told xs p d
-told_read xs (Err f) t = t
-
-told : (xs : List ℕ) → Bytes xs → ReadTold xs (read_of xs)
-told xs bs = told_read xs (message_of xs) (told_message xs (frame_of xs) (told_frame xs bs))
-
-pub accepts : (xs : List ℕ) (items : List Item) → MessageOf xs items → read_of xs ≡ Ok items
-accepts xs items m =
-    let d : List ℕ = flat_map packet_bytes items in
-    let K : Parts → Result (List Item) Report = λ b. packets_from (length b.content) b.start b.content in
-    let p : Parts = parts_from 0xFF 0x36 d in
-    let f : message_of xs ≡ Ok p =
-    ap message_of m.is ∙ ap (λ r. and_then r addressed) (frame_back 0xFF 0x36 d m.short)
-    ∙ cond-false (eqb (length d) 0) _ (Ok p) (some_bytes items m.some) in
-    ap (λ r. and_then r K) f ∙ packets_back (length d) p.start items m.well_formed (omega arith)
-  where
-    some_bytes : (is : List Item) → 0 < length is → eqb (length (flat_map packet_bytes is)) 0 ≡ false
-    some_bytes [] h = absurd (omega arith)
-    some_bytes (i ∷ is) h = ne_eqb _ 0 (λ e. omega arith)
-
-pub read_said : (xs : List ℕ) → Bytes xs → ReadSaid xs
-read_said xs bs = record {
-  accepted = λ items e. subst (ReadTold xs) e (told xs bs);
-  accepts = accepts xs;
-  refused = λ f e. subst (ReadTold xs) e (told xs bs);
-}
