@@ -7,7 +7,7 @@ use Rattle.std.proofs.lemmas.Bool.{lt-ltb, le-ltb, le-leb, lt-leb, cond-true, co
 use Rattle.xbus.specs.Numbers.{be}
 use Rattle.xbus.specs.Frames.{encoded}
 use Rattle.xbus.specs.Writing.{frame_size, content_start, content_size, sealed_by}
-use Rattle.mtdata2.proofs.Frames.{frame_parts}
+use Rattle.xbus.proofs.Writes.{frame_room}
 
 -- ---- sizes
 
@@ -24,7 +24,7 @@ start_grows n m h =
     (cases_lt n 255)
 
 pub size_grows : (n m : ℕ) → n ≤ m → frame_size n ≤ frame_size m
-size_grows n m h = omega (arith, frame_parts n, frame_parts m, start_grows n m h)
+size_grows n m h = omega (arith, frame_room n, frame_room m, start_grows n m h)
 
 pub size_back : (n : ℕ) → n ≤ 2048 → content_size (frame_size n) ≡ Some n
 size_back n h =
@@ -114,14 +114,14 @@ module _ (xs shifted packet mid fin : List ℕ) (old new len n : ℕ) (r : Optio
 
     written_length : length written ≡ length xs
     written_length =
-        let f = frame_parts n in
+        let f = frame_room n in
         let k : new + n ≡ new + len + length packet = omega arith in
         ap (λ m. length (put_mid (new + len) (m - (new + len)) shifted mid)) k
         ∙ over_length (new + len) (length packet) shifted mid (omega arith) (ap length same) ∙ kept
 
     pub sealed_extended : r ≡ content_size (length written) → fin ≡ sealed_by r 0xFF 0x36 written → fin ≡ encoded 0xFF 0x36 (take len (drop (content_start len) xs) ++ packet)
     sealed_extended is-r is-fin =
-        let f = frame_parts n in
+        let f = frame_room n in
         let g = start_grows len n (omega arith) in
         let k : ℕ = new + n - (new + len) in
         let some : r ≡ Some n = is-r ∙ ap content_size (written_length ∙ size) ∙ size_back n short in

@@ -7,31 +7,31 @@ use Rattle.std.proofs.lemmas.Slice.{between_is}
 use Rattle.std.proofs.lemmas.Bool.{lt-ltb, le-ltb, cond-true, cond-false, cases_lt}
 use Rattle.xbus.specs.Frames.{header_of, checksum, encoded}
 use Rattle.xbus.specs.Writing.{frame_size, content_start}
-use Rattle.xbus.proofs.Cases.{length_short, length_is_long}
-use Rattle.xbus.proofs.Writes.{encoded_size}
+use Rattle.xbus.proofs.Headers.{length_short, length_is_long}
+use Rattle.xbus.proofs.Writes.{frame_room, encoded_size}
 use Rattle.mtdata2.specs.Packets.{Item, packet_bytes, WellFormed}
 use Rattle.mtdata2.specs.Words.{MessageOf}
-use Rattle.mtdata2.proofs.Frames.{frame_parts}
-use Rattle.mtdata2.proofs.Rounds.{accepts, well_formed_push}
+use Rattle.mtdata2.proofs.Cuts.{well_formed_push}
+use Rattle.mtdata2.proofs.Messages.{accepts}
 use Rattle.draft.specs.declared.draft.Draft.{Draft}
 use Rattle.draft.specs.Composed.{frame_so_far, grown, content_in, laid, Holding, Added, Closed}
 
 -- ---- closed
 
 -- the bytes from the start to the mark are the message
-message_there : (items : List Item) (tray : List ℕ) (d : Draft) → Holding items tray d → 0 < length items → MessageOf (take (d.mark.now - d.lot.start) (drop d.lot.start tray)) items
+message_there : (items : List Item) (tray : List ℕ) (d : Draft) → Holding items tray d → 0 < length items → MessageOf (take (d.mark.now - d.extent.start) (drop d.extent.start tray)) items
 message_there [] tray d h some = absurd (omega arith)
 message_there (i ∷ is) tray d h some =
     let items : List Item = i ∷ is in
-    let n : d.mark.now - d.lot.start ≡ length (frame_so_far items) = omega (arith, h.marked) in
+    let n : d.mark.now - d.extent.start ≡ length (frame_so_far items) = omega (arith, h.marked) in
     record {
       some = some;
       well_formed = h.well_formed;
-      short = omega (arith, h.sized, d.lot.size.most);
-      is = ap (λ k. take k (drop d.lot.start tray)) n ∙ h.there;
+      short = omega (arith, h.sized, d.extent.size.most);
+      is = ap (λ k. take k (drop d.extent.start tray)) n ∙ h.there;
     }
 
-pub closed_full : (items : List Item) (tray : List ℕ) (d : Draft) → Holding items tray d → (d.lot.size.len ≡ 0 → ⊥) → Closed items tray d (Ok tt)
+pub closed_full : (items : List Item) (tray : List ℕ) (d : Draft) → Holding items tray d → (d.extent.size.len ≡ 0 → ⊥) → Closed items tray d (Ok tt)
 closed_full items tray d h some =
     let m = message_there items tray d h in
     record {
@@ -72,7 +72,7 @@ held_content (i ∷ is) tray start n e h there =
     let f : ℕ = length (encoded 0xFF 0x36 d) in
     let size : f ≡ frame_size (length d) = encoded_size 0xFF 0x36 d (omega arith) in
     ap (content_in tray start) e
-    ∙ sym (content_part tray start (length d) f (omega (arith, frame_parts (length d))))
+    ∙ sym (content_part tray start (length d) f (omega (arith, frame_room (length d))))
     ∙ ap (λ z. take (length d) (drop (content_start (length d)) z)) there
     ∙ encoded_content 0xFF 0x36 d (omega arith)
 
@@ -83,10 +83,10 @@ so_far_push [] i = refl
 so_far_push (j ∷ js) i = refl
 
 -- the frame that is laid is that of the packets with the new one
-pub frame_grows : (items : List Item) (tray : List ℕ) (d : Draft) (i : Item) → Holding items tray d → encoded 0xFF 0x36 (content_in tray d.lot.start d.lot.size.len ++ packet_bytes i) ≡ frame_so_far (items ++ (i ∷ []))
+pub frame_grows : (items : List Item) (tray : List ℕ) (d : Draft) (i : Item) → Holding items tray d → encoded 0xFF 0x36 (content_in tray d.extent.start d.extent.size.len ++ packet_bytes i) ≡ frame_so_far (items ++ (i ∷ []))
 frame_grows items tray d i h =
     ap (encoded 0xFF 0x36)
-    (ap (λ z. z ++ packet_bytes i) (held_content items tray d.lot.start d.lot.size.len h.sized d.lot.size.most h.there)
+    (ap (λ z. z ++ packet_bytes i) (held_content items tray d.extent.start d.extent.size.len h.sized d.extent.size.most h.there)
     ∙ flat_map_more packet_bytes [] items i)
     ∙ sym (so_far_push items i)
 
@@ -99,17 +99,17 @@ pasted xs ys at n h l =
     ∙ ap (λ z. take n (z ++ drop (at + n) xs)) all ∙ take_at ys (drop (at + n) xs) n l
 
 module _ (tray u : List ℕ) (d e : Draft) (i : Item) (w : WellFormed i)
-    (same_start : e.lot.start ≡ d.lot.start)
-    (size : e.lot.size.len ≡ grown d.lot.size.len (length i.bytes))
-    (mark : e.mark.now ≡ d.lot.start + frame_size (grown d.lot.size.len (length i.bytes)))
-    (fits : d.lot.start + frame_size (grown d.lot.size.len (length i.bytes)) ≤ length tray)
-    (short : grown d.lot.size.len (length i.bytes) ≤ 2048)
-    (is : u ≡ laid tray d.lot.start d.lot.size.len i)
+    (same_start : e.extent.start ≡ d.extent.start)
+    (size : e.extent.size.len ≡ grown d.extent.size.len (length i.bytes))
+    (mark : e.mark.now ≡ d.extent.start + frame_size (grown d.extent.size.len (length i.bytes)))
+    (fits : d.extent.start + frame_size (grown d.extent.size.len (length i.bytes)) ≤ length tray)
+    (short : grown d.extent.size.len (length i.bytes) ≤ 2048)
+    (is : u ≡ laid tray d.extent.start d.extent.size.len i)
   where
     pub holds_more : (items : List Item) → Holding items tray d → Holding (items ++ (i ∷ [])) u e
     holds_more items h =
-        let start = d.lot.start in
-        let have = d.lot.size.len in
+        let start = d.extent.start in
+        let have = d.extent.size.len in
         let n : ℕ = grown have (length i.bytes) in
         let old : List ℕ = flat_map packet_bytes items in
         let new : List ℕ = flat_map packet_bytes (items ++ (i ∷ [])) in

@@ -7,11 +7,10 @@ use Rattle.xbus.specs.Numbers.{Bytes}
 use Rattle.xbus.specs.Frames.{encoded}
 use Rattle.xbus.specs.Writing.{frame_size, content_start}
 use Rattle.xbus.proofs.Bytes.{bytes_take, bytes_drop}
-use Rattle.xbus.proofs.Writes.{encoded_size}
+use Rattle.xbus.proofs.Writes.{frame_room, encoded_size}
 use Rattle.mti.specs.Identifiers.{data_size_of}
 use Rattle.mtdata2.specs.Packets.{Item, item_of, size_fits, packet_bytes, WellFormed}
-use Rattle.mtdata2.proofs.Frames.{frame_parts}
-use Rattle.mtdata2.proofs.Rounds.{fits_size}
+use Rattle.mtdata2.proofs.Cuts.{fits_size}
 use Rattle.draft.specs.declared.refusal.Refusal.{Refusal}
 use Rattle.draft.specs.declared.refusal.Refusal.TheVariants.{NoRoom}
 use Rattle.draft.specs.Composed.{asked, grown, sized, and_then, judged, content_in, laid}
@@ -96,7 +95,7 @@ module _ (source : List ℕ) (identifier place size start have room g : ℕ) (a 
       let i : Item = asked source identifier place size in
       let d : List ℕ = content_in tray start have ++ packet_bytes i in
       let all : List ℕ = encoded 0xFF 0x36 d in
-      let p = frame_parts g in
+      let p = frame_room g in
       let s = start_grows have g (omega (arith, a.is)) in
       let there : take have (drop (content_start have) frame) ≡ content_in tray start have =
       ap (λ x. take have (drop (content_start have) x)) (is-frame ∙ ap (take f) is-behind) ∙ content_part tray start have f (omega (arith, a.is)) in

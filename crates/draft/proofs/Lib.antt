@@ -1,3 +1,4 @@
+pub mod Refused
 pub mod Extends
 pub mod Holds
 pub mod Judges

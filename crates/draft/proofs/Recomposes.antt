@@ -11,7 +11,7 @@ use Rattle.mti.specs.Identifiers.{data_size_of}
 use Rattle.mtdata2.specs.Faults.{Report}
 use Rattle.mtdata2.specs.Packets.{Item, item_of, size_fits, packet_bytes, WellFormed, EachWellFormed, handed, handed_by, handed_out}
 use Rattle.mtdata2.specs.Words.{MessageOf}
-use Rattle.mtdata2.proofs.Rounds.{size_fits_lem}
+use Rattle.mtdata2.proofs.Cuts.{size_fits_lem}
 use Rattle.draft.specs.declared.draft.Draft.{Draft}
 use Rattle.draft.specs.declared.refusal.Refusal.{Refusal}
 use Rattle.draft.specs.declared.refusal.Refusal.TheVariants.{NoRoom}
@@ -26,11 +26,11 @@ pub record Progress (all : List Item) (m : ℕ) (t tray : List ℕ) (d : Draft) 
   pub done : List Item
   pub split : done ++ left ≡ all
   pub holding : Holding done tray d
-  pub start : d.lot.start ≡ m
+  pub start : d.extent.start ≡ m
   pub tray_is : tray ≡ paste t m (frame_so_far done) (length (frame_so_far done))
   pub fits : 0 < length done → m + length (frame_so_far done) ≤ length t
 
-pub progress_none : (all : List Item) (m : ℕ) (t : List ℕ) (d : Draft) (left : List Item) → Holding [] t d → d.lot.start ≡ m → left ≡ all → Progress all m t t d left
+pub progress_none : (all : List Item) (m : ℕ) (t : List ℕ) (d : Draft) (left : List Item) → Holding [] t d → d.extent.start ≡ m → left ≡ all → Progress all m t t d left
 progress_none all m t d left h s e = record {
   done = [];
   split = e;
@@ -71,8 +71,8 @@ so_far_longer (j ∷ js) i h =
 -- ---- one packet more
 
 module _ (all : List Item) (m : ℕ) (t tray u : List ℕ) (d e : Draft) (i : Item) (left : List Item)
-    (p : Progress all m t tray d (i ∷ left)) (a : Added d e tray u i) (same : e.lot.start ≡ d.lot.start)
-    (room : d.lot.start + frame_size (grown d.lot.size.len (length i.bytes)) ≤ length tray)
+    (p : Progress all m t tray d (i ∷ left)) (a : Added d e tray u i) (same : e.extent.start ≡ d.extent.start)
+    (room : d.extent.start + frame_size (grown d.extent.size.len (length i.bytes)) ≤ length tray)
   where
     pub progress_more : Progress all m t u e left
     progress_more =
@@ -80,10 +80,10 @@ module _ (all : List Item) (m : ℕ) (t tray u : List ℕ) (d e : Draft) (i : It
         let new : List Item = done ++ (i ∷ []) in
         let h = p.holding in
         let h' = a.holds done h in
-        let n : ℕ = frame_size (grown d.lot.size.len (length i.bytes)) in
+        let n : ℕ = frame_size (grown d.extent.size.len (length i.bytes)) in
         let ln : length (frame_so_far new) ≡ n = omega (arith, h'.marked, a.mark, same) in
         let lt : length tray ≡ length t = ap length p.tray_is ∙ tray_length done m t p.fits in
-        let longer = so_far_longer done i (omega (arith, h'.sized, e.lot.size.most)) in
+        let longer = so_far_longer done i (omega (arith, h'.sized, e.extent.size.most)) in
         let start = p.start in
         record {
           done = new;
@@ -123,13 +123,13 @@ answered_ok x (Ok g) e = (g, refl)
 answered_ok x (Err f) e = let z : ◌≡◌ {A = ℕ} 0 1 = cc in absurd (omega arith)
 
 -- the record of a packet that was handed out was accepted
-pub progress_added : (all : List Item) (m : ℕ) (t tray u : List ℕ) (d e : Draft) (i : Item) (left : List Item) (content : List ℕ) (identifier : ℕ) (x : Unit {0}) → Progress all m t tray d (i ∷ left) → asked content identifier 0 (length content) ≡ i → Added d e tray u (asked content identifier 0 (length content)) → e.lot.start ≡ d.lot.start → Ok x ≡ answered (judged (length content) identifier 0 (length content) d.lot.start d.lot.size.len (length tray)) → Progress all m t u e left
+pub progress_added : (all : List Item) (m : ℕ) (t tray u : List ℕ) (d e : Draft) (i : Item) (left : List Item) (content : List ℕ) (identifier : ℕ) (x : Unit {0}) → Progress all m t tray d (i ∷ left) → asked content identifier 0 (length content) ≡ i → Added d e tray u (asked content identifier 0 (length content)) → e.extent.start ≡ d.extent.start → Ok x ≡ answered (judged (length content) identifier 0 (length content) d.extent.start d.extent.size.len (length tray)) → Progress all m t u e left
 progress_added all m t tray u d e i left content identifier x p is a same says =
-    let o = answered_ok x (judged (length content) identifier 0 (length content) d.lot.start d.lot.size.len (length tray)) says in
-    let q = accepted_inside (length content) identifier 0 (length content) d.lot.start d.lot.size.len (length tray) o.0 (omega arith) o.1 in
+    let o = answered_ok x (judged (length content) identifier 0 (length content) d.extent.start d.extent.size.len (length tray)) says in
+    let q = accepted_inside (length content) identifier 0 (length content) d.extent.start d.extent.size.len (length tray) o.0 (omega arith) o.1 in
     let lc : length content ≡ length i.bytes = sym (ap length (take_all (length content) content (omega arith))) ∙ ap (λ j. length j.bytes) is in
-    let g : o.0 ≡ grown d.lot.size.len (length i.bytes) = q.is ∙ ap (grown d.lot.size.len) lc in
-    progress_more all m t tray u d e i left p (subst (Added d e tray u) is a) same (subst (λ k. d.lot.start + frame_size k ≤ length tray) g q.fits)
+    let g : o.0 ≡ grown d.extent.size.len (length i.bytes) = q.is ∙ ap (grown d.extent.size.len) lc in
+    progress_more all m t tray u d e i left p (subst (Added d e tray u) is a) same (subst (λ k. d.extent.start + frame_size k ≤ length tray) g q.fits)
 
 -- ---- refused
 
@@ -148,17 +148,17 @@ only_no_room true n e p = (refl, cc)
 only_no_room false n e p = let z : ◌≡◌ {A = ℕ} 0 1 = cc in absurd (omega arith)
 
 -- a packet of an accepted message is refused for want of room alone
-refused_packet : (input : List ℕ) (all : List Item) (m : ℕ) (t tray u : List ℕ) (d : Draft) (i : Item) (left : List Item) (content : List ℕ) (e : Refusal) (k : ℕ) → MessageOf input all → Progress all m t tray d (i ∷ left) → content ≡ i.bytes → Err e ≡ answered (judged (length content) i.identifier 0 (length content) d.lot.start d.lot.size.len (length tray)) → k ≡ d.lot.start → Recomposed input m t (Err e) k u
+refused_packet : (input : List ℕ) (all : List Item) (m : ℕ) (t tray u : List ℕ) (d : Draft) (i : Item) (left : List Item) (content : List ℕ) (e : Refusal) (k : ℕ) → MessageOf input all → Progress all m t tray d (i ∷ left) → content ≡ i.bytes → Err e ≡ answered (judged (length content) i.identifier 0 (length content) d.extent.start d.extent.size.len (length tray)) → k ≡ d.extent.start → Recomposed input m t (Err e) k u
 refused_packet input all m t tray u d i left content e k msg p c says back =
     let w = well_formed_at p.done i left (subst EachWellFormed (sym p.split) msg.well_formed) in
     let lc : length content ≡ length i.bytes = ap length c in
     let total : length (flat_map packet_bytes all) ≡ length (flat_map packet_bytes p.done) + (3 + length i.bytes) + length (flat_map packet_bytes left) =
     ap (λ l. length (flat_map packet_bytes l)) (sym p.split) ∙ joined_split p.done i left in
-    let n : ℕ = grown d.lot.size.len (length content) in
+    let n : ℕ = grown d.extent.size.len (length content) in
     let short : n ≤ length (flat_map packet_bytes all) = omega (arith, p.holding.sized) in
     let right : size_fits i.identifier (length content) ≡ true = ap (size_fits i.identifier) lc ∙ size_fits_lem (data_size_of i.identifier) (length i.bytes) w.size in
-    let j = judged_room (length content) i.identifier 0 (length content) d.lot.start d.lot.size.len (length tray) (omega arith) (omega (arith, w.short)) right (omega (arith, msg.short)) in
-    let r = only_no_room (ltb (length tray) (d.lot.start + frame_size n)) n e (says ∙ ap answered j) in
+    let j = judged_room (length content) i.identifier 0 (length content) d.extent.start d.extent.size.len (length tray) (omega arith) (omega (arith, w.short)) right (omega (arith, msg.short)) in
+    let r = only_no_room (ltb (length tray) (d.extent.start + frame_size n)) n e (says ∙ ap answered j) in
     let less = ltb-true _ _ r.0 in
     let lt : length tray ≡ length t = ap length p.tray_is ∙ tray_length p.done m t p.fits in
     let li : length input ≡ frame_size (length (flat_map packet_bytes all)) = ap length msg.is ∙ encoded_size 0xFF 0x36 (flat_map packet_bytes all) msg.short in
@@ -171,7 +171,7 @@ refused_packet input all m t tray u d i left content e k msg p c says back =
 -- ---- as the code has it: the mark began at n, and the answer came by `?`
 
 module _ (input : List ℕ) (all : List Item) (m n : ℕ) (t tray : List ℕ) (d : Draft) (msg : MessageOf input all) (begun : m ≡ n) where
-  pub refused_at : (u : List ℕ) (i : Item) (left : List Item) (content : List ℕ) (e : Refusal) (r : Result (Unit {0}) Refusal) (k : ℕ) → Progress all m t tray d (i ∷ left) → content ≡ i.bytes → Err e ≡ answered (judged (length content) i.identifier 0 (length content) d.lot.start d.lot.size.len (length tray)) → r ≡ Err e → k ≡ d.lot.start → Recomposed input n t r k u
+  pub refused_at : (u : List ℕ) (i : Item) (left : List Item) (content : List ℕ) (e : Refusal) (r : Result (Unit {0}) Refusal) (k : ℕ) → Progress all m t tray d (i ∷ left) → content ≡ i.bytes → Err e ≡ answered (judged (length content) i.identifier 0 (length content) d.extent.start d.extent.size.len (length tray)) → r ≡ Err e → k ≡ d.extent.start → Recomposed input n t r k u
   refused_at u i left content e r k p c says is back =
       subst (λ x. Recomposed input x t r k u) begun
       (subst (λ x. Recomposed input m t x k u) (sym is) (refused_packet input all m t tray u d i left content e k msg p c says back))

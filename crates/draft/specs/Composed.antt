@@ -64,15 +64,15 @@ laid tray start n i =
 -- the tray holds the frame of these packets behind the draft's start, and the mark stands behind it
 pub record Holding (items : List Item) (tray : List ℕ) (d : Draft) : Type 0 where
   pub well_formed : EachWellFormed items
-  pub sized : d.lot.size.len ≡ length (flat_map packet_bytes items)
-  pub there : take (length (frame_so_far items)) (drop d.lot.start tray) ≡ frame_so_far items
-  pub marked : d.mark.now ≡ d.lot.start + length (frame_so_far items)
+  pub sized : d.extent.size.len ≡ length (flat_map packet_bytes items)
+  pub there : take (length (frame_so_far items)) (drop d.extent.start tray) ≡ frame_so_far items
+  pub marked : d.mark.now ≡ d.extent.start + length (frame_so_far items)
 
 -- an accepted record: from the draft d and the tray t to e and u
 pub record Added (d e : Draft) (t u : List ℕ) (i : Item) : Type 0 where
-  pub size : e.lot.size.len ≡ grown d.lot.size.len (length i.bytes)
-  pub mark : e.mark.now ≡ d.lot.start + frame_size (grown d.lot.size.len (length i.bytes))
-  pub tray : u ≡ laid t d.lot.start d.lot.size.len i
+  pub size : e.extent.size.len ≡ grown d.extent.size.len (length i.bytes)
+  pub mark : e.mark.now ≡ d.extent.start + frame_size (grown d.extent.size.len (length i.bytes))
+  pub tray : u ≡ laid t d.extent.start d.extent.size.len i
   pub holds : (items : List Item) → Holding items t d → Holding (items ++ (i ∷ [])) u e
 
 -- the answer to closing a draft with n data bytes
@@ -84,5 +84,5 @@ closing n = cond (n == 0) (Err NoPacket) (Ok tt)
 pub record Closed (items : List Item) (tray : List ℕ) (d : Draft) (r : Result (Unit {0}) Refusal) : Type 0 where
   pub refused : items ≡ [] → r ≡ Err NoPacket
   pub accepted : 0 < length items → r ≡ Ok tt
-  pub message : 0 < length items → MessageOf (take (d.mark.now - d.lot.start) (drop d.lot.start tray)) items
-  pub reads : 0 < length items → read_of (take (d.mark.now - d.lot.start) (drop d.lot.start tray)) ≡ Ok items
+  pub message : 0 < length items → MessageOf (take (d.mark.now - d.extent.start) (drop d.extent.start tray)) items
+  pub reads : 0 < length items → read_of (take (d.mark.now - d.extent.start) (drop d.extent.start tray)) ≡ Ok items

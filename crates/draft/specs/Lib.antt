@@ -1,3 +1,4 @@
 pub mod Refusals
 pub mod Composed
+pub mod Refused
 pub mod Round

@@ -7,7 +7,7 @@ ghost use Rattle.xbus.specs.Writing.{frame_size, content_start};
 ghost use Rattle.mtdata2.specs.Packets.{Item, item_of, packet_bytes};
 ghost use Rattle.draft.specs.Composed.{asked, grown, sized, judged, counted, answered, closing, Holding, Added, Closed};
 
-use crate::lot::Lot;
+use crate::extent::Extent;
 use crate::refusal::Refusal;
 use mtdata2::{DATA_MESSAGE, size_fits};
 use mti::PACKET_HEADER;
@@ -94,16 +94,16 @@ fn extend_frame(frame: &mut [u8], have: DataLen, more: DataLen, identifier: u16,
 // A data message that is being composed. It borrows the fill mark, and not the tray, which is lent to each call.
 pub struct Draft<'m> {
     mark: &'m mut usize,
-    lot: Lot,
+    extent: Extent,
 }
 
 impl Drop for Draft<'_> {
     // A draft that is not closed puts the fill mark back.
     fn drop(self)
-        ensures { self.exit.0.now ≡ self.entry.lot.start }
+        ensures { self.exit.0.now ≡ self.entry.extent.start }
     {
-        let Draft { mark, lot } = self;
-        *mark = lot.start;
+        let Draft { mark, extent } = self;
+        *mark = extent.start;
     }
 }
 
@@ -112,47 +112,47 @@ impl<'m> Draft<'m> {
     pub fn begin(mark: &'m mut usize) -> Draft<'m>
         ensures lends { result.mark.ghost_name ≡ mark.entry.ghost_name }
         ensures stays { result.mark.now ≡ mark.old }
-        ensures old { result.lot.start ≡ mark.old }
-        ensures none { result.lot.size.len ≡ 0 }
+        ensures old { result.extent.start ≡ mark.old }
+        ensures none { result.extent.size.len ≡ 0 }
         ensures holds { (tray : List ℕ) → Holding [] tray result }
     {
         let start = *mark;
-        let lot = Lot {
+        let extent = Extent {
             start,
             size: DataLen { len: 0 },
         };
-        Draft { mark, lot }
+        Draft { mark, extent }
     }
 
     // Adds a packet behind the others; then the whole frame so far stands in the tray, and the mark behind it.
     pub fn add(&mut self, tray: &mut [u8], source: &[u8], packet: Record) -> Result<(), Refusal>
-        ensures says { result ≡ answered (judged (length source.now) packet.identifier packet.place packet.size self.old.lot.start self.old.lot.size.len (length tray.old)) }
+        ensures says { result ≡ answered (judged (length source.now) packet.identifier packet.place packet.size self.old.extent.start self.old.extent.size.len (length tray.old)) }
         ensures lends { self.new.mark.ghost_name ≡ self.old.mark.ghost_name }
-        ensures old { self.new.lot.start ≡ self.old.lot.start }
+        ensures old { self.new.extent.start ≡ self.old.extent.start }
         ensures does { MatchResult result (λ _. Added self.old self.new tray.old tray.new (asked source.now packet.identifier packet.place packet.size)) (λ _. (self.new ≡ self.old) × (tray.new ≡ tray.old)) }
     {
-        let Lot { start, size: have } = self.lot;
+        let Extent { start, size: have } = self.extent;
         let content = content_of(source, packet).ok_or(Refusal::PastBytes)?;
         let grown = judge(have, packet)?;
         let size = grown.frame_size();
         let (_, behind) = tray.split_at_mut_checked(start).ok_or(Refusal::NoRoom)?;
         let (frame, _) = behind.split_at_mut_checked(size).ok_or(Refusal::NoRoom)?;
         extend_frame(frame, have, grown, packet.identifier, content);
-        self.lot.size = grown;
+        self.extent.size = grown;
         *self.mark = start + size;
         Ok(())
     }
 
     // Ends the message. Nothing is written: the frame stands in the tray. Without a packet the mark is put back.
     pub fn close(self) -> Result<(), Refusal>
-        ensures says { result ≡ closing self.entry.lot.size.len }
-        ensures mark { self.exit.0.now ≡ (if is_ok result then self.entry.mark.now else self.entry.lot.start) }
+        ensures says { result ≡ closing self.entry.extent.size.len }
+        ensures mark { self.exit.0.now ≡ (if is_ok result then self.entry.mark.now else self.entry.extent.start) }
         ensures reads { (items : List Item) (tray : List ℕ) → Holding items tray self.entry → Closed items tray self.entry result }
     {
-        if self.lot.size.len == 0 {
+        if self.extent.size.len == 0 {
             return Err(Refusal::NoPacket);
         }
-        let Draft { mark: _, lot: _ } = self;
+        let Draft { mark: _, extent: _ } = self;
         Ok(())
     }
 }

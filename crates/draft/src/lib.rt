@@ -3,7 +3,7 @@
 
 mod composing;
 mod draft;
-mod lot;
+mod extent;
 mod refusal;
 
 pub use composing::compose;

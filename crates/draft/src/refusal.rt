@@ -1,6 +1,7 @@
 // Why a composer refuses.
 ghost use Rattle.std.specs.Prelude.{◌≡◌};
 ghost use Rattle.draft.specs.Refusals.{number_of};
+ghost use Rattle.draft.specs.Refused.{RefusedSaid};
 
 // What is refused, as the number of the refusal.
 #[derive(Clone, Copy, Debug, PartialEq, Eq)]
@@ -18,8 +19,11 @@ pub enum Refusal {
 }
 
 impl Refusal {
+    // Also says which call is refused by which number, and in which order.
+    #[tactic(auto, using(crate::proofs::Refused::refused_said))]
     pub fn number(&self) -> u8
-        ensures { result ≡ number_of self.now }
+        ensures value { result ≡ number_of self.now }
+        ensures said { RefusedSaid }
     {
         *self as u8
     }

@@ -2,7 +2,7 @@
 use Rattle.std.proofs.Common.{◌≡◌, ℕ, ◌+◌, ◌-◌, ◌<◌, List, length, Some, None, sym, refl, ap, ◌∙◌, arith}
 use Rattle.std.proofs.lemmas.Bool.{eq-eqb, ne_eqb}
 use Rattle.store.specs.Meaning.{image_size, held_after, left_after}
-use Rattle.store.specs.Slots.{slots, image_at, used, held_in, left_in, fenced, filled, saved, bytes_after}
+use Rattle.store.specs.Slots.{slots, image_at, used, held_in, left_in, end_marked, filled, saved, bytes_after}
 use Rattle.store.proofs.Meanings.{accepted_held, accepted_left, accepted_memory}
 use Rattle.store.proofs.Writes.{slots_saved, used_saved, image_saved}
 
@@ -36,7 +36,7 @@ module _ (xs bs : List ℕ) (room : used bs < slots bs) (long : length xs ≡ im
   pub saved_bytes : saved xs bs ≡ bytes_after xs bs
   saved_bytes = sym (accepted_memory xs (left_in bs) long more saved bs)
 
--- the fence and then the slot, as the code writes them
-pub saved_by_steps : (xs bs ys zs : List ℕ) (u : ℕ) → u ≡ used bs → ys ≡ fenced bs (u + 1) → zs ≡ filled ys u xs → zs ≡ saved xs bs
+-- the mark behind the slot and then the slot, as the code writes them
+pub saved_by_steps : (xs bs ys zs : List ℕ) (u : ℕ) → u ≡ used bs → ys ≡ end_marked bs (u + 1) → zs ≡ filled ys u xs → zs ≡ saved xs bs
 unfolding saved
-saved_by_steps xs bs ys zs u e f g = g ∙ (ap (λ y. filled y u xs) f ∙ ap (λ v. filled (fenced bs (v + 1)) v xs) e)
+saved_by_steps xs bs ys zs u e f g = g ∙ (ap (λ y. filled y u xs) f ∙ ap (λ v. filled (end_marked bs (v + 1)) v xs) e)

@@ -1,4 +1,5 @@
 pub mod Meanings
+pub mod Refused
 pub mod Cut
 pub mod Runs
 pub mod Writes

@@ -1,4 +1,5 @@
 pub mod Meaning
+pub mod Refused
 pub mod Slots
 pub mod Trial
 pub mod Held

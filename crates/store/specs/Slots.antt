@@ -38,16 +38,16 @@ abbrev pub left_in : List ℕ → ℕ
 left_in bs = slots bs - used bs
 
 -- slot j, if there is one, gets the mark FF
-abbrev pub fenced : List ℕ → ℕ → List ℕ
-fenced bs j = cond (nat_lt j (slots bs)) (slice_set bs (slot_size * j) 0xFF) bs
+abbrev pub end_marked : List ℕ → ℕ → List ℕ
+end_marked bs j = cond (nat_lt j (slots bs)) (slice_set bs (slot_size * j) 0xFF) bs
 
 -- slot k gets an image and the mark 00
 abbrev pub filled : List ℕ → ℕ → List ℕ → List ℕ
 filled bs k xs = take (slot_size * k) bs ++ ((0 ∷ xs) ++ drop (slot_size * k + slot_size) bs)
 
--- the memory after a save that is not refused: the next slot is filled behind the fence
+-- the memory after a save that is not refused: the slot behind the next one is marked as not used, and the next one filled
 unfoldable pub saved : List ℕ → List ℕ → List ℕ
-saved xs bs = filled (fenced bs (used bs + 1)) (used bs) xs
+saved xs bs = filled (end_marked bs (used bs + 1)) (used bs) xs
 
 -- the memory after any save
 abbrev pub bytes_after : List ℕ → List ℕ → List ℕ

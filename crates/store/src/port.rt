@@ -1,5 +1,6 @@
 // What a store answers and means after each call.
 ghost use Rattle.std.specs.Prelude.{◌≡◌, ℕ, List, [], length, Option};
+ghost use Rattle.store.specs.Refused.{RefusedSaid};
 ghost use Rattle.store.specs.Meaning.{error_number, ImageOrNone, load_answer, buffer_after, save_answer, held_after, left_after, memory_after};
 
 // The bytes of an image.
@@ -13,8 +14,11 @@ pub enum StoreError {
 }
 
 impl StoreError {
+    // Also says which call is refused by which number, and in which order.
+    #[tactic(auto, using(crate::proofs::Refused::refused_said))]
     pub fn number(&self) -> u8
-        ensures { result ≡ error_number self.now }
+        ensures value { result ≡ error_number self.now }
+        ensures said { RefusedSaid }
     {
         *self as u8
     }

@@ -2,7 +2,7 @@
 ghost use Rattle.std.specs.Prelude.{◌≡◌, ◌<◌, ◌≤◌, length};
 ghost use Rattle.std.specs.Option.{option_copied};
 ghost use Rattle.store.specs.Meaning.{save_answer, held_after, left_after};
-ghost use Rattle.store.specs.Slots.{slots, slots_of, used, held_in, left_in, fenced, filled, bytes_after, rest, UsedSaid};
+ghost use Rattle.store.specs.Slots.{slots, slots_of, used, held_in, left_in, end_marked, filled, bytes_after, rest, UsedSaid};
 
 use crate::port::{IMAGE, StoreError};
 
@@ -48,8 +48,8 @@ pub(crate) fn held_image(bytes: &[u8]) -> Option<&[u8; IMAGE]>
 
 // Marks slot `j` as not used, if there is such a slot.
 // Form: places are computed, here and in `fill`, since the library does not say what the memory ends as where its slots are lent.
-fn fence(bytes: &mut [u8], j: usize)
-    ensures { bytes.new ≡ fenced bytes.old j }
+fn put_end_mark(bytes: &mut [u8], j: usize)
+    ensures { bytes.new ≡ end_marked bytes.old j }
 {
     if j < slots_of(bytes).len() {
         bytes[SLOT * j] = UNUSED;
@@ -78,7 +78,7 @@ pub(crate) fn save_to(bytes: &mut [u8], image: &[u8]) -> Result<(), StoreError>
     if used == slots_of(bytes).len() {
         return Err(StoreError::NoWritesLeft);
     }
-    fence(bytes, used + 1);
+    put_end_mark(bytes, used + 1);
     fill(bytes, used, image);
     Ok(())
 }

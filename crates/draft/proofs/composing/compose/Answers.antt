@@ -1,3 +1,4 @@
+-- Each packet is added behind those before it, and one that is refused has no room.
 use Rattle.std.proofs.Common.{◌≡◌, length, Err, refl, ap, ◌∙◌, subst, rules}
 use Rattle.mtdata2.specs.Packets.{item, handed_out}
 use Rattle.draft.specs.Composed.{answered, asked, judged, Added}
@@ -16,7 +17,7 @@ loop-packet-init c = (
 pub loop-packet-preserved : goal.loop-packet-preserved
 loop-packet-preserved c =
     let all = handed_out c.args.message.now.content.now in
-    let m = c.begin-draft.result.lot.start in
+    let m = c.begin-draft.result.extent.start in
     let t = c.args.tray.now in
     let d = c.loop-packet.draft in
     let i = item c.in-Some.packet in
@@ -32,13 +33,13 @@ loop-packet-preserved c =
           p is (subst (λ r. Added d c.add.new.self c.loop-packet.tray c.add.new.tray (asked content r.identifier r.place r.size)) c.whole.ensures c.in_ok-add.ensures.does)
           c.add.ensures.old
           (c.in_ok-add.ensures.says
-          ∙ ap (λ r. answered (judged (length content) r.identifier r.place r.size d.lot.start d.lot.size.len (length c.loop-packet.tray))) c.whole.ensures),
+          ∙ ap (λ r. answered (judged (length content) r.identifier r.place r.size d.extent.start d.extent.size.len (length c.loop-packet.tray))) c.whole.ensures),
     )
 
 pub returns-in_err-add : goal.returns-in_err-add
 returns-in_err-add c input msg =
     let all = handed_out c.args.message.now.content.now in
-    let m = c.begin-draft.result.lot.start in
+    let m = c.begin-draft.result.extent.start in
     let t = c.args.tray.now in
     let d = c.loop-packet.draft in
     let i = item c.in-Some.packet in
@@ -47,9 +48,9 @@ returns-in_err-add c input msg =
     let steps = c.in-Some.ensures.steps in
     let e = c.in_err-add.field-0.0 in
     let p = subst (Progress all m t c.loop-packet.tray d) steps c.loop-packet.invariant.3 in
-    let says : Err e ≡ answered (judged (length content) i.identifier 0 (length content) d.lot.start d.lot.size.len (length c.loop-packet.tray)) =
+    let says : Err e ≡ answered (judged (length content) i.identifier 0 (length content) d.extent.start d.extent.size.len (length c.loop-packet.tray)) =
     c.in_err-add.ensures.says
-    ∙ ap (λ r. answered (judged (length content) r.identifier r.place r.size d.lot.start d.lot.size.len (length c.loop-packet.tray))) c.whole.ensures
-    ∙ ap (λ k. answered (judged (length content) k 0 (length content) d.lot.start d.lot.size.len (length c.loop-packet.tray))) c.identifier.ensures in
+    ∙ ap (λ r. answered (judged (length content) r.identifier r.place r.size d.extent.start d.extent.size.len (length c.loop-packet.tray))) c.whole.ensures
+    ∙ ap (λ k. answered (judged (length content) k 0 (length content) d.extent.start d.extent.size.len (length c.loop-packet.tray))) c.identifier.ensures in
     refused_at input all m c.args.mark.now t c.loop-packet.tray d msg c.begin-draft.ensures.old
     c.add.new.tray i left content e c.from_residual.result _ p c.content-content.ensures says (search rules) (search rules)

@@ -1,3 +1,4 @@
+-- The data in their new place and the packet behind them are the data of the frame that is sealed.
 use Rattle.std.proofs.Common.{arith, rules}
 use Rattle.mtdata2.specs.Packets.{item_of, packet_bytes}
 use Rattle.draft.proofs.Extends.{sealed_extended}

@@ -1,3 +1,4 @@
+-- Identifier, size and data are the packet's bytes.
 use Rattle.std.proofs.Common.{◌∙◌}
 use Rattle.draft.proofs.Extends.{packet_laid}
 use Rattle.draft.proofs.draft.put_packet.Goals as goal

@@ -1,3 +1,4 @@
+-- Bytes that stay in their place are pasted over themselves.
 use Rattle.std.proofs.Common.{◌≡◌, drop, ap, ◌∙◌, arith}
 use lib.Seq.{paste}
 use Rattle.draft.proofs.Extends.{paste_self}

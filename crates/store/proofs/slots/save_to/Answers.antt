@@ -1,4 +1,4 @@
--- A refused save leaves the memory, and an accepted one writes the fence and the next slot.
+-- A refused save leaves the memory, and an accepted one writes the mark behind the next slot, and then that slot.
 use Rattle.std.proofs.Common.{◌≡◌, ◌<◌, length, sym, refl, ap, ◌∙◌, arith, rules}
 use Rattle.store.specs.Meaning.{image_size}
 use Rattle.store.specs.Slots.{used, slots, held_in, left_in, filled, saved, rest}
@@ -30,8 +30,8 @@ returns c =
     let room : used bs < slots bs = omega arith in
     let same : c.in_ok-image.image.now ≡ xs = search rules in
     let s =
-    saved_by_steps xs bs c.fence.new.bytes c.fill.new.bytes c.used_slots-used.result
-    c.used_slots-used.ensures.value c.fence.ensures (c.fill.ensures ∙ ap (filled c.fence.new.bytes c.used_slots-used.result) same) in
+    saved_by_steps xs bs c.put_end_mark.new.bytes c.fill.new.bytes c.used_slots-used.result
+    c.used_slots-used.ensures.value c.put_end_mark.ensures (c.fill.ensures ∙ ap (filled c.put_end_mark.new.bytes c.used_slots-used.result) same) in
     record {
       answer = sym (accepted_answer xs (left_in bs) long (omega arith));
       held = ap held_in s ∙ saved_held xs bs room long;

@@ -1,3 +1,4 @@
+-- A packet that is accepted is well-formed and has room, and the frame with it stands in its place of the tray.
 use Rattle.std.proofs.Common.{◌≡◌, ◌+◌, ◌≤◌, length, sym, refl, ap, ◌∙◌, subst, rules}
 use Rattle.xbus.specs.Writing.{frame_size}
 use Rattle.xbus.proofs.Bytes.{bytes_typed}
@@ -11,8 +12,8 @@ returns-clause-does c =
     let s = c.args.source.now in
     let t = c.args.tray.now in
     let d = c.args.self.now in
-    let start = d.lot.start in
-    let have = d.lot.size.len in
+    let start = d.extent.start in
+    let have = d.extent.size.len in
     let p = c.args.packet in
     let g = c.in_ok-grown.grown.len in
     let f = c.frame_size-size.result in

@@ -1,3 +1,4 @@
+-- The frame of the packets that a closed draft holds reads back as them.
 use Rattle.std.proofs.Common.{rules}
 use Rattle.draft.proofs.Holds.{closed_full}
 use Rattle.draft.proofs.draft.Draft.close.Goals as goal

@@ -3,7 +3,7 @@ use xbus::DataLen;
 
 // Where the frame begins, and how many data bytes it has so far.
 #[derive(Clone, Copy)]
-pub struct Lot {
+pub struct Extent {
     pub start: usize,
     pub size: DataLen,
 }
