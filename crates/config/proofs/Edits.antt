@@ -1,25 +1,18 @@
 -- Settings with one value edited.
 use Rattle.std.proofs.Common.{◌≡◌, ℕ, ◌+◌, ◌<◌, ◌≤◌, true, leb, Some, None, Option, sym, ap, ◌∙◌, arith}
 use Rattle.std.proofs.lemmas.Bool.{and_parts, leb-true, cond-true, cond-false, cond_both}
-use Rattle.mti.specs.declared.product.Product.{Product}
-use Rattle.mti.specs.declared.product.Product.TheVariants.{Mti3, Mti30, Mti300, MtiG710}
 use Rattle.mti.specs.Exactly.{Exactly}
 use Rattle.mti.proofs.Exact.{exactly, none_not_some}
 use Rattle.settings.specs.Values.{Values, entry}
 use Rattle.settings.specs.Valid.{first_profile, valid}
 use Rattle.settings.specs.View.{checked_of}
+use Rattle.settings.proofs.Bounds.{first_below}
 use Rattle.settings.proofs.Judged.{refused, Passed}
 use Rattle.config.specs.Changed.{with_profile, used_of, used}
 use Rattle.mti.specs.declared.output.Output.{Output}
 use Rattle.mti.specs.Identifiers.{known_of}
 use Rattle.settings.specs.Rates.{largest_divisor}
 use Rattle.std.specs.Option.{MatchOption}
-
-pub profiles : (p : Product) → first_profile p ≤ 50
-profiles Mti3 = omega arith
-profiles Mti30 = omega arith
-profiles Mti300 = omega arith
-profiles MtiG710 = omega arith
 
 valid_profile_lem : (c : Values) → Passed c → c.profile ≤ first_profile c.product + 4
 valid_profile_lem c p = leb-true _ _ (and_parts (leb (first_profile c.product) c.profile) _ p.framed.profile).1
@@ -32,7 +25,7 @@ no_profile c v h =
     sym (cond-false (valid d) (Some d) None
     (sym (refused d (λ p.
     let e = valid_profile_lem d p in
-    omega (arith, e, profiles c.product)))))
+    omega (arith, e, first_below c.product)))))
 
 pub used_by : (o : Option Output) (i a r : ℕ) (Said : Output → Type 0) → o ≡ known_of i → MatchOption o (r ≡ a) Said
     → ((x : Output) → Said x → r ≡ largest_divisor x.channel.max_hz a) → entry i r ≡ used (entry i a)

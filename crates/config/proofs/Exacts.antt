@@ -1,17 +1,14 @@
 -- A change gives exactly what the words say.
 use Rattle.std.proofs.Common.{◌≡◌, ℕ, ◌^◌, ◌<◌, true, ◌∷◌, ◌++◌, Some, sym, ap, ◌∙◌, ⊎_elim, arith}
-use lib.Bits.{and_le_r}
-use Rattle.std.proofs.lemmas.Bool.{eqb-true}
 use Rattle.mti.specs.declared.product.Product.{Product}
-use Rattle.mti.specs.declared.product.Product.TheVariants.{Mti3, Mti30, Mti300, MtiG710}
 use Rattle.mti.specs.Exactly.{Exactly}
 use Rattle.mti.proofs.Exact.{exactly}
 use Rattle.settings.specs.Values.{Values}
-use Rattle.settings.specs.Valid.{flag_bits, valid}
+use Rattle.settings.specs.Valid.{valid}
 use Rattle.settings.specs.Factory.{factory_of}
 use Rattle.settings.specs.View.{checked_of}
 use Rattle.settings.proofs.FromFactory.{factory_valid}
-use Rattle.settings.proofs.Judged.{valid_passed}
+use Rattle.settings.proofs.Bounds.{fits}
 use Rattle.decision.specs.Asked.{Changing, Baud, ErrorMode, Location, Profile, Flags, Outputs, Factory}
 use Rattle.config.specs.Changed.{with_baud, with_profile, with_error_mode, with_location, with_flags, new_flags, changed_of}
 use Rattle.config.specs.After.{After, Small, ChangedSaid}
@@ -21,23 +18,12 @@ use Rattle.config.proofs.Fittings.{lists_by, offered, outputs_sound, outputs_exa
 
 -- ---- flags
 
-flags_few : (p : Product) → flag_bits p < 2 ^ 32
-flags_few Mti3 = omega arith
-flags_few Mti30 = omega arith
-flags_few Mti300 = omega arith
-flags_few MtiG710 = omega arith
-
-valid_flags_lem : (c : Values) → valid c ≡ true → c.flags < 2 ^ 32
-valid_flags_lem c v =
-    let e = eqb-true _ _ (valid_passed c v).framed.flags in
-    omega (arith, e, and_le_r c.flags (flag_bits c.product), flags_few c.product)
-
 flags_exactly : (c : Values) (s k : ℕ) → valid c ≡ true → k < 2 ^ 32
     → Exactly (λ d. After c (Flags s k) d × (valid d ≡ true)) (changed_of c (Flags s k))
 unfolding changed_of
 flags_exactly c s k v h =
     let n = new_flags c.flags s k in
-    let is = flagged c.flags s k (valid_flags_lem c v) h in
+    let is = flagged c.flags s k (omega (arith, (fits c v).flags)) h in
     exactly _ (checked_of (with_flags c n))
     (λ d e. let p = checked_some (with_flags c n) d e in ((n, is, p.0), p.1))
     (λ d p.

@@ -1,16 +1,12 @@
 -- Each bit of the new flags.
 use Rattle.std.proofs.Common.{◌≡◌, ℕ, zero, suc, ◌+◌, ◌-◌, ◌/◌, ◌%◌, ◌^◌, ◌<◌, ◌≤◌, sym, ap, ◌∙◌, inl, inr, ⊎_elim, arith, pow_mono}
-use native.Mathlib.Nat.{div-div-eq-div-mul, div-eq_of_lt, pow-succ'}
+use native.Mathlib.Nat.{div-eq_of_lt, pow-succ'}
 use lib.Bits.{bit_and, bit_or, and_comm, and_shr, or_shr, and_step, or_step}
 use Rattle.std.proofs.lemmas.Bool.{cases_lt, cases_eq}
 use Rattle.settings.specs.Rules.{Bit}
-use Rattle.settings.proofs.Flags.{within_bits}
+use Rattle.settings.proofs.Flags.{half_bit, within_bits}
 use Rattle.config.specs.Changed.{new_flags}
 use Rattle.config.specs.After.{Flagged}
-
--- bit k of the half is bit k + 1
-half_bit : (n k : ℕ) → n / 2 / 2 ^ k ≡ n / 2 ^ suc k
-half_bit n k = div-div-eq-div-mul n 2 (2 ^ k) ∙ ap (λ m. n / m) (sym (pow-succ' 2 k))
 
 -- the bits of what is left of all ones are the others
 other_bit : (n k c : ℕ) → c < 2 ^ n → k < n → (2 ^ n - 1 - c) / 2 ^ k % 2 + c / 2 ^ k % 2 ≡ 1

@@ -1,27 +1,22 @@
 -- What stands where in the Configuration message, and the sizes of answers.
-use Rattle.std.proofs.Common.{◌≡◌, ℕ, zero, suc, ◌+◌, ◌-◌, ◌*◌, ◌^◌, ◌<◌, ◌≤◌, Bool, true, ◌&&◌, ltb, List, [], ◌∷◌, ◌++◌, length, get_or, replicate, refl, ◌∙◌, subst, ⊎_elim, mod-eq_of_lt, arith}
+use Rattle.std.proofs.Common.{◌≡◌, ℕ, zero, suc, ◌+◌, ◌-◌, ◌*◌, ◌<◌, ◌≤◌, Bool, true, ◌&&◌, ltb, List, [], ◌∷◌, ◌++◌, length, get_or, replicate, refl, ◌∙◌, subst, ⊎_elim, arith}
 use Rattle.std.proofs.lemmas.List.{get_or_append_left, get_or-append_right, get_or_past}
 use Rattle.std.proofs.lemmas.Bool.{and_parts, ltb-true, cases_lt}
 use Rattle.mti.specs.declared.product.Product.{Product}
 use Rattle.mti.specs.declared.product.Product.TheVariants.{Mti3, Mti30, Mti300, MtiG710}
-use Rattle.xbus.specs.Numbers.{Bytes, be, number_of}
-use Rattle.xbus.proofs.Bytes.{bytes_append, bytes_zeros}
-use Rattle.xbus.proofs.Widths.{number_be}
+use Rattle.xbus.specs.Numbers.{Bytes, be}
+use Rattle.xbus.proofs.Bytes.{bytes_append, bytes_zeros, bytes_be}
+use Rattle.xbus.proofs.Widths.{be_back}
 use Rattle.settings.specs.declared.record.Entry.{Entry}
 use Rattle.settings.specs.Values.{Values}
 use Rattle.settings.specs.Rules.{Valid}
+use Rattle.settings.proofs.Bounds.{first_below}
 use Rattle.settings.proofs.Worded.{valid_said}
 use Rattle.decision.specs.declared.actions.Question.{Question}
 use Rattle.decision.specs.declared.actions.Question.TheVariants as question
 use Rattle.config.specs.Answered.{name_of, output_bytes, data_bytes, configured, configuration_of, by_question, answer_of}
 use Rattle.config.specs.Told.{Beside, ConfigurationSaid, AnswerBound}
-use Rattle.config.proofs.Edits.{profiles}
 use Rattle.config.proofs.Sizes.{data_few}
-
--- ---- numbers
-
-number_back : (w v : ℕ) → v < 256 ^ w → number_of (be w v) ≡ v
-number_back w v h = number_be w v ∙ mod-eq_of_lt h
 
 -- ---- zeros
 
@@ -80,20 +75,16 @@ pub configuration_said : ConfigurationSaid
 unfolding configuration_of
 configuration_said = record {
   size = λ id c. refl;
-  device = λ id c h. number_back 4 id h;
+  device = λ id c h. be_back 4 id h;
   devices = λ id c. refl;
-  device_again = λ id c h. number_back 4 id h;
+  device_again = λ id c h. be_back 4 id h;
   all_data = λ id c v.
       let few = (valid_said.sound c v).few in
-      number_back 2 (data_bytes c.entries) (omega (arith, data_few c.entries));
+      be_back 2 (data_bytes c.entries) (omega (arith, data_few c.entries));
   zeros = λ id c k a b d e. zeros_beside id (data_bytes c.entries) k (let z : k ≡ 0 + k = omega arith in subst Free z (a, b, d, e));
 }
 
 -- ---- answers
-
-bytes_be : (k n : ℕ) → Bytes (be k n)
-bytes_be zero n = tt
-bytes_be (suc k) n = (omega arith, bytes_be k n)
 
 abbrev small : List ℕ → Bool
 small [] = true
@@ -140,7 +131,7 @@ answered id c question.Configuration v = (omega arith, bytes_configured id (data
 answered id c question.Baud v = (omega arith, (⊎_elim (λ h. omega arith) (λ h. omega arith) v.baud, tt))
 answered id c question.ErrorMode v = (omega arith, bytes_be 2 c.error_mode)
 answered id c question.Location v = (omega arith, bytes_be 2 c.location)
-answered id c question.Profile v = (omega arith, (omega arith, (omega (arith, v.profile.1, profiles c.product), tt)))
+answered id c question.Profile v = (omega arith, (omega arith, (omega (arith, v.profile.1, first_below c.product), tt)))
 answered id c question.Flags v = (omega arith, bytes_be 4 c.flags)
 answered id c question.Outputs v = (omega (arith, length_outputs c.entries, v.few), bytes_outputs c.entries)
 

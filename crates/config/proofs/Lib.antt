@@ -5,3 +5,5 @@ pub mod Layouts
 pub mod Flagging
 pub mod Fittings
 pub mod Exacts
+pub mod Staying
+pub mod Asking

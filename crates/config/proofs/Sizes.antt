@@ -1,5 +1,5 @@
 -- The sizes of data, and bytes written entry after entry.
-use Rattle.std.proofs.Common.{◌≡◌, ℕ, ◌+◌, ◌*◌, ◌<◌, ◌≤◌, List, [], ◌∷◌, ◌++◌, length, replicate, get_or, take, Some, None, Option, sym, refl, ap, ◌∙◌, append-nil, div-one, ◌/◌, ◌%◌, arith}
+use Rattle.std.proofs.Common.{◌≡◌, ℕ, ◌+◌, ◌*◌, ◌<◌, ◌≤◌, List, [], ◌∷◌, ◌++◌, length, replicate, get_or, take, Some, None, Option, sym, refl, ap, ◌∙◌, append-nil, ◌/◌, ◌%◌, arith}
 use Rattle.std.specs.List.{sum_by, flat_map}
 use Rattle.std.proofs.lemmas.List.Sums.{sum_by-cons}
 use Rattle.std.proofs.lemmas.List.{take_more, take_more_set}
@@ -8,6 +8,7 @@ use Rattle.std.proofs.Math.ListN.{set}
 use Rattle.mti.specs.Identifiers.{data_size_of, Bounded}
 use Rattle.mti.proofs.Named.{size_bounded}
 use Rattle.xbus.specs.Numbers.{be}
+use Rattle.xbus.proofs.Widths.{two_bytes, four_bytes}
 use Rattle.settings.specs.declared.record.Entry.{Entry}
 use Rattle.settings.specs.Values.{entry}
 use Rattle.config.specs.Answered.{configured, packet_bytes, data_bytes, output_bytes}
@@ -37,13 +38,6 @@ written_more es i out four h room inv e =
     ∙ flat_map-append (λ bytes. bytes) (take i out) (four ∷ [])
     ∙ (λ t. inv t ++ (append-nil four ∙ e) t)
     ∙ sym (ap output_bytes (take_more es i (entry 0 0) h) ∙ output_push (take i es) (get_or es i (entry 0 0)))
-
--- the bytes of a number
-pub two_bytes : (v : ℕ) → v / 256 % 256 ∷ v % 256 ∷ [] ≡ be 2 v
-two_bytes v = ap (λ k. v / 256 % 256 ∷ k % 256 ∷ []) (sym (div-one v))
-
-pub four_bytes : (v : ℕ) → v / 16777216 % 256 ∷ v / 65536 % 256 ∷ v / 256 % 256 ∷ v % 256 ∷ [] ≡ be 4 v
-four_bytes v = ap (λ k. v / 16777216 % 256 ∷ v / 65536 % 256 ∷ v / 256 % 256 ∷ k % 256 ∷ []) (sym (div-one v))
 
 pub configured_is : (id size : ℕ)
     → (id / 16777216 % 256 ∷ id / 65536 % 256 ∷ id / 256 % 256 ∷ id % 256 ∷ []) ++ replicate 92 0

@@ -30,6 +30,7 @@ abbrev pub data_bytes : List Entry → ℕ
 data_bytes [] = 0
 data_bytes (e ∷ es) = packet_bytes (data_size_of e.identifier) + data_bytes es
 
+-- the device ID, zeros, 0001, the device ID again, the size of all data, and zeros
 abbrev pub configured : ℕ → ℕ → List ℕ
 configured id size = be 4 id ++ replicate 92 0 ++ be 2 1 ++ be 4 id ++ be 2 size ++ replicate 14 0
 
@@ -37,6 +38,7 @@ configured id size = be 4 id ++ replicate 92 0 ++ be 2 1 ++ be 4 id ++ be 2 size
 unfoldable pub configuration_of : ℕ → Values → List ℕ
 configuration_of id c = configured id (data_bytes c.entries)
 
+-- what each question is answered with
 abbrev pub by_question : ℕ → Values → Question → List ℕ
 by_question id c question.DeviceId = be 4 id
 by_question id c question.Name = name_of c.product

@@ -4,12 +4,15 @@ ghost use Rattle.std.specs.List.{flat_map};
 ghost use Rattle.xbus.specs.Numbers.{be};
 ghost use Rattle.settings.specs.View.{values_of};
 ghost use Rattle.config.specs.Answered.{name_of, output_bytes, answer_of, count_in, laid_in};
-ghost use Rattle.config.specs.Told.{AnswerBound};
+ghost use Rattle.config.specs.Told.{AnswerBound, AskedSaid};
 
 use crate::layout::configuration;
 use decision::Question;
 use mti::Product;
 use settings::{Entry, MOST_ENTRIES, Settings};
+
+// The most bytes of an answer.
+pub const MOST_ANSWER: usize = 128;
 
 const FIRMWARE: [u8; 11] = [1, 0, 0, 0, 0, 0, 0, 0, 0, 0, 0];
 
@@ -59,7 +62,7 @@ fn lay(out: &mut [u8], bytes: &[u8]) -> Option<usize>
 
 // Writes the answer at the front, and says how many bytes it has; none, and nothing is written, if it does not fit.
 // Form: settings and device ID stay two parameters, since only this function and `configuration` take both.
-#[tactic(auto, using(crate::proofs::Layouts::answer_bound), unfolding(crate::specs::Answered::answer_of))]
+#[tactic(auto, using(crate::proofs::Layouts::answer_bound, crate::proofs::Asking::asked_said), unfolding(crate::specs::Answered::answer_of))]
 pub fn answer(
     settings: &Settings,
     device_id: u32,
@@ -69,6 +72,7 @@ pub fn answer(
     ensures count { result ≡ count_in (answer_of device_id (values_of settings.now) question) out.old }
     ensures after { out.new ≡ laid_in (answer_of device_id (values_of settings.now) question) out.old }
     ensures bound { AnswerBound }
+    ensures asked { AskedSaid }
 {
     let values = settings.values();
     match question {

@@ -6,6 +6,6 @@ mod changes;
 mod layout;
 mod outputs;
 
-pub use answers::answer;
+pub use answers::{MOST_ANSWER, answer};
 pub use changes::{WrongValue, change};
 pub use layout::configuration;

@@ -1,10 +1,10 @@
 -- What a message of the table asks for with its data: as it is decided, and as the table says it.
-use Rattle.std.proofs.Common.{◌≡◌, ℕ, ◌*◌, ◌/◌, ◌%◌, ◌^◌, ◌<◌, ◌≤◌, Bool, true, false, cond, eqb, leb, ◌⊎◌, List, [], ◌++◌, length, take, drop, Ok, Err, sym, refl, ap, ◌∙◌, subst, inl, inr, ⊎_elim, mod-eq_of_lt, arith}
+use Rattle.std.proofs.Common.{◌≡◌, ℕ, ◌*◌, ◌/◌, ◌%◌, ◌^◌, ◌<◌, ◌≤◌, Bool, true, false, cond, eqb, leb, ◌⊎◌, List, [], ◌++◌, length, take, drop, Ok, Err, sym, refl, ap, ◌∙◌, subst, inl, inr, ⊎_elim, arith}
 use Rattle.std.proofs.lemmas.List.{length-take, length-drop, take-append-drop, nil_from_length}
 use Rattle.std.proofs.lemmas.Bool.{false≢true, both_ways, and_parts, and_from, leb-true, le-leb, eqb-true, eq-eqb, ne_eqb, cond-true, cond-false, cond_both}
 use Rattle.xbus.specs.Numbers.{Bytes, be, number_of}
 use Rattle.xbus.proofs.Bytes.{bytes_take, bytes_drop}
-use Rattle.xbus.proofs.Widths.{length_be, number_be, number_lt, inverse}
+use Rattle.xbus.proofs.Widths.{length_be, be_back, number_lt, inverse}
 use Rattle.decision.specs.declared.actions.Question.TheVariants as question
 use Rattle.decision.specs.declared.deciding.MessageError.TheVariants.{NotAllowed, WrongLength}
 use Rattle.decision.specs.Asked.{Asked, Changing, Flags, Outputs, Factory, Ask, Set}
@@ -82,11 +82,11 @@ says_by : {c : Carries} {xs : List ℕ} {a : Asked} → Says c xs a
 says_by nothing = inl (refl, refl)
 says_by number_asked = inl (refl, refl)
 says_by (number {q} {n} {f} {v} h) =
-    inr (eq-eqb _ _ (length_be n v), ap (λ (z : ℕ). Set (f z)) (sym (number_be n v ∙ mod-eq_of_lt h)))
+    inr (eq-eqb _ _ (length_be n v), ap (λ (z : ℕ). Set (f z)) (sym (be_back n v h)))
 says_by flags_asked = inl (refl, refl)
 says_by (flags {s} {c} h k) =
-    let e : s ≡ number_of (be 4 s) = sym (number_be 4 s ∙ mod-eq_of_lt h) in
-    let g : c ≡ number_of (be 4 c) = sym (number_be 4 c ∙ mod-eq_of_lt k) in
+    let e : s ≡ number_of (be 4 s) = sym (be_back 4 s h) in
+    let g : c ≡ number_of (be 4 c) = sym (be_back 4 c k) in
     inr (refl, λ i. Set (Flags (e i) (g i)))
 says_by entries_asked = inl (refl, refl)
 says_by (entries {xs} {n} e l h) = inr (is_fits (length xs) n e l h, refl)

@@ -1,7 +1,8 @@
 -- Looking a message up in the table: as it is decided, and as the table says it.
 use Rattle.std.proofs.Common.{◌≡◌, ℕ, zero, suc, Bool, true, false, cond, not, ◌&&◌, ◌||◌, eqb, ◌⊎◌, List, [], ◌∷◌, Err, Decides, sym, refl, ap, ◌∙◌, subst, inl, inr, ⊎_elim, arith}
-use Rattle.std.specs.List.{ContainsAt as Has}
+use Rattle.std.specs.List.{Contains}
 use Rattle.std.proofs.lemmas.Bool.{false≢true, both_ways, not-true, and_parts, or_right, eqb-true, eqb-false, cases_Bool, cond_both}
+use Rattle.std.proofs.lemmas.List.Elements.{Decides-contains}
 use Rattle.std.proofs.lemmas.Bool.Decides.{Decides-eqb, Decides-like, Decides-and, Decides-by_or}
 use Rattle.mti.specs.declared.product.Product.{Product}
 use Rattle.mti.specs.declared.product.Product.TheVariants.{Mti3, Mti30, Mti300, MtiG710}
@@ -37,13 +38,14 @@ offered p i = not (eqb i 0xDA) || has_error_mode p
 abbrev allowed : State → Product → ℕ → Message → Bool
 allowed s p i m = listed s m.states && (offered p m.identifier && eqb i m.identifier)
 
-listed_is : (s : State) (ts : List State) → Decides (listed s ts) (Has ts s)
-listed_is s =
-    Decides-by_or (λ t. eqb (code_of t) (code_of s)) (λ t. t ≡ s) (listed s)
+listed_is : (s : State) (ts : List State) → Decides (listed s ts) (Contains ts s)
+listed_is s ts =
+    Decides-contains ts s (listed s ts)
+    (Decides-by_or (λ t. eqb (code_of t) (code_of s)) (λ t. t ≡ s) (listed s)
     (λ t.
     Decides-like _ (λ e. sym (state_back t) ∙ ap state_of e ∙ state_back s) (ap code_of)
     (Decides-eqb (code_of t) (code_of s)))
-    refl (λ _ _. refl)
+    refl (λ _ _. refl) ts)
 
 error_mode_offered : (p : Product) → (p ≡ Mti3 → ⊥) → has_error_mode p ≡ true
 error_mode_offered Mti3 h = absurd (h refl)
@@ -60,12 +62,12 @@ offered_is p i = (
 )
 
 allowed_is : (s : State) (p : Product) (i : ℕ) (m : Message)
-    → Decides (allowed s p i m) (Has m.states s × ((m.identifier ≡ 0xDA → p ≡ Mti3 → ⊥) × (i ≡ m.identifier)))
+    → Decides (allowed s p i m) (Contains m.states s × ((m.identifier ≡ 0xDA → p ≡ Mti3 → ⊥) × (i ≡ m.identifier)))
 allowed_is s p i m =
     Decides-and _ _ (listed_is s m.states)
     (Decides-and _ _ (offered_is p m.identifier) (Decides-eqb i m.identifier))
 
-pub allows : (s : State) (p : Product) (i : ℕ) (m : Message) → Has messages m → allowed s p i m ≡ true → Allows s p i m
+pub allows : (s : State) (p : Product) (i : ℕ) (m : Message) → Contains messages m → allowed s p i m ≡ true → Allows s p i m
 allows s p i m r t =
     let q = (allowed_is s p i m).0 t in
     record { row = r; identifier = sym q.1.1; state = q.0; product = λ e. q.1.0 (sym q.1.1 ∙ e) }
@@ -76,14 +78,14 @@ allowed_by {s} {p} {i} {m} a =
 
 -- ---- rows of a list
 
-has_head : {X : Type 0} (x : X) (xs : List X) → Has (x ∷ xs) x
-has_head x xs = (0, omega arith, λ d. refl)
+has_head : {X : Type 0} (x : X) (xs : List X) → Contains (x ∷ xs) x
+has_head x xs = (0, omega arith, refl)
 
-has_tail : {X : Type 0} (x : X) (xs : List X) (y : X) → Has xs y → Has (x ∷ xs) y
+has_tail : {X : Type 0} (x : X) (xs : List X) (y : X) → Contains xs y → Contains (x ∷ xs) y
 has_tail x xs y h = (suc h.0, omega (arith, h.1), h.2)
 
-has_cases : {X : Type 0} (x : X) (xs : List X) (y : X) → Has (x ∷ xs) y → (x ≡ y) ⊎ Has xs y
-has_cases x xs y (zero, h, e) = inl (e y)
+has_cases : {X : Type 0} (x : X) (xs : List X) (y : X) → Contains (x ∷ xs) y → (x ≡ y) ⊎ Contains xs y
+has_cases x xs y (zero, h, e) = inl e
 has_cases x xs y (suc k, h, e) = inr (k, omega arith, e)
 
 -- ---- the row that allows a message, if any
@@ -93,8 +95,8 @@ looked s p i xs [] = Err NotAllowed
 looked s p i xs (m ∷ ms) = cond (allowed s p i m) (carried m.carries xs) (looked s p i xs ms)
 
 looked_by : (P : Decision → Type 0) (s : State) (p : Product) (i : ℕ) (xs : List ℕ) (ms : List Message)
-    → ((m : Message) → Has ms m → allowed s p i m ≡ true → P (carried m.carries xs))
-    → (((m : Message) → Has ms m → allowed s p i m ≡ true → ⊥) → P (Err NotAllowed)) → P (looked s p i xs ms)
+    → ((m : Message) → Contains ms m → allowed s p i m ≡ true → P (carried m.carries xs))
+    → (((m : Message) → Contains ms m → allowed s p i m ≡ true → ⊥) → P (Err NotAllowed)) → P (looked s p i xs ms)
 looked_by P s p i xs [] some none = none (λ m h t. absurd (omega (arith, h.1)))
 looked_by P s p i xs (m ∷ ms) some none =
     cond_both (allowed s p i m) _ _ P (some m (has_head m ms))
@@ -134,7 +136,7 @@ abbrev orderly : List Message → Bool
 orderly [] = true
 orderly (m ∷ ms) = not (full m.carries 0) && (lacks m.identifier ms && orderly ms)
 
-lacks_has : (i : ℕ) (ms : List Message) → lacks i ms ≡ true → (m : Message) → Has ms m → m.identifier ≡ i → ⊥
+lacks_has : (i : ℕ) (ms : List Message) → lacks i ms ≡ true → (m : Message) → Contains ms m → m.identifier ≡ i → ⊥
 lacks_has i [] t m h e = omega (arith, h.1)
 lacks_has i (n ∷ ms) t m h e =
     let p = and_parts (not (eqb n.identifier i)) _ t in
@@ -142,19 +144,19 @@ lacks_has i (n ∷ ms) t m h e =
     (λ same. eqb-false _ _ (not-true _ p.0) (ap (λ (w : Message). w.identifier) same ∙ e))
     (λ k. lacks_has i ms p.1 m k e) (has_cases n ms m h)
 
-unique : (ms : List Message) → orderly ms ≡ true → (m n : Message) → Has ms m → Has ms n → m.identifier ≡ n.identifier → m ≡ n
+unique : (ms : List Message) → orderly ms ≡ true → (m n : Message) → Contains ms m → Contains ms n → m.identifier ≡ n.identifier → m ≡ n
 unique [] t m n h k e = absurd (omega (arith, h.1))
 unique (x ∷ ms) t m n h k e =
     let p = and_parts (not (full x.carries 0)) _ t in
     let q = and_parts (lacks x.identifier ms) _ p.1 in
-    let far : (y z : Message) → x ≡ y → Has ms z → z.identifier ≡ y.identifier → ⊥ =
+    let far : (y z : Message) → x ≡ y → Contains ms z → z.identifier ≡ y.identifier → ⊥ =
     λ y z f g d. lacks_has x.identifier ms q.0 z g (d ∙ ap (λ (w : Message). w.identifier) (sym f)) in
     ⊎_elim
     (λ f. ⊎_elim (λ g. sym f ∙ g) (λ g. absurd (far m n f g (sym e))) (has_cases x ms n k))
     (λ f. ⊎_elim (λ g. absurd (far n m g f e)) (λ g. unique ms q.1 m n f g e) (has_cases x ms n k))
     (has_cases x ms m h)
 
-some_value : (ms : List Message) → orderly ms ≡ true → (m : Message) → Has ms m → full m.carries 0 ≡ false
+some_value : (ms : List Message) → orderly ms ≡ true → (m : Message) → Contains ms m → full m.carries 0 ≡ false
 some_value [] t m h = absurd (omega (arith, h.1))
 some_value (x ∷ ms) t m h =
     let p = and_parts (not (full x.carries 0)) _ t in

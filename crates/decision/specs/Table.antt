@@ -1,6 +1,6 @@
 -- The messages that a unit knows, as a table to hold beside the protocol, and what it says of the decision.
 use Rattle.std.specs.Prelude.{◌≡◌, ℕ, ◌*◌, ◌^◌, ◌<◌, ◌≤◌, List, [], ◌∷◌, ◌++◌, length, Ok, Err, ◌≢◌}
-use Rattle.std.specs.List.{ContainsAt as Has}
+use Rattle.std.specs.List.{Contains}
 use Rattle.mti.specs.declared.product.Product.{Product}
 use Rattle.mti.specs.declared.product.Product.TheVariants.{Mti3}
 use Rattle.xbus.specs.Numbers.{Bytes, be}
@@ -50,9 +50,9 @@ messages =
 
 -- the unit of the product in the state allows the message; error modes are not the MTi-3's
 pub record Allows (s : State) (p : Product) (i : ℕ) (m : Message) : Type 0 where
-  pub row : Has messages m
+  pub row : Contains messages m
   pub identifier : m.identifier ≡ i
-  pub state : Has m.states s
+  pub state : Contains m.states s
   pub product : i ≡ 0xDA → p ≢ Mti3
 
 -- the data, and what the message asks for with them

@@ -17,7 +17,7 @@ use Rattle.settings.proofs.Divisors.{divides_mod, mod_le}
 use Rattle.settings.proofs.Judged.{valid_passed}
 use Rattle.settings.proofs.Worded.{entries_each, valid_said}
 
-first_below : (p : Product) → first_profile p ≤ 50
+pub first_below : (p : Product) → first_profile p ≤ 50
 first_below Mti3 = omega arith
 first_below Mti30 = omega arith
 first_below Mti300 = omega arith

@@ -49,10 +49,6 @@ module _ (i k : ℕ) (vs : List ℕ) (l : length vs ≡ i) where
       rw (m, two, o, take_at (places i vs) (be 2 0 ++ places k []) (2 * i) w, drop_at (places i vs) (be 2 0 ++ places k []) (2 * i) w, rest)
       (sym (written v) ∙ ap (λ j. places j (vs ++ (v ∷ []))) size)
 
--- the bytes of a number
-pub two_bytes : (v : ℕ) → v / 256 % 256 ∷ v % 256 ∷ [] ≡ be 2 v
-two_bytes v = ap (λ k. v / 256 % 256 ∷ k % 256 ∷ []) (sym (div-one v))
-
 -- ---- the image, part by part
 
 pub fields_are : (n b p m l g : ℕ) → n < 256 → b < 256 → p < 256

@@ -17,7 +17,7 @@ bits_within f b h k t =
     r
 
 -- bit k of the half is bit k + 1
-half_bit : (n k : ℕ) → n / 2 / 2 ^ k ≡ n / 2 ^ suc k
+pub half_bit : (n k : ℕ) → n / 2 / 2 ^ k ≡ n / 2 ^ suc k
 half_bit n k = div-div-eq-div-mul n 2 (2 ^ k) ∙ ap (λ m. n / m) (sym (pow-succ' 2 k))
 
 Within : ℕ → Type 0

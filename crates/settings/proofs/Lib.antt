@@ -9,4 +9,5 @@ pub mod Columns
 pub mod Bounds
 pub mod Stores
 pub mod Spelt
+pub mod Placing
 pub mod Loads

@@ -1,5 +1,5 @@
 -- What is stored is loaded, and nothing else is.
-use Rattle.std.proofs.Common.{◌≡◌, ℕ, zero, suc, ◌+◌, ◌*◌, ◌^◌, ◌<◌, ◌≤◌, true, false, ◌&&◌, List, [], ◌∷◌, ◌++◌, map, length, get_or, take, Some, None, sym, refl, ap, ◌∙◌, subst, ⊎_elim, append_assoc, append-nil, mod-eq_of_lt, add-one, arith, rules}
+use Rattle.std.proofs.Common.{◌≡◌, ℕ, zero, suc, ◌+◌, ◌*◌, ◌^◌, ◌<◌, ◌≤◌, true, false, ◌&&◌, List, [], ◌∷◌, ◌++◌, map, length, get_or, take, Some, None, sym, refl, ap, ◌∙◌, subst, ⊎_elim, append_assoc, append-nil, add-one, arith, rules}
 use Rattle.std.specs.Str.{bytes_eq}
 use Rattle.std.proofs.ByRecursion.{All-get_or}
 use Rattle.std.proofs.lemmas.Slice.Eq.{bytes_eq-Decides}
@@ -8,8 +8,8 @@ use Rattle.std.proofs.lemmas.Bool.{cases_eq, cases_Bool, cond-true, cond-false, 
 use Rattle.mti.specs.declared.product.Product.{Product}
 use Rattle.mti.proofs.Exact.{some_not_none, none_not_some}
 use Rattle.xbus.specs.Numbers.{Bytes, be, number_of}
-use Rattle.xbus.proofs.Bytes.{bytes_append}
-use Rattle.xbus.proofs.Widths.{length_be, number_be}
+use Rattle.xbus.proofs.Bytes.{bytes_append, bytes_be}
+use Rattle.xbus.proofs.Widths.{length_be, be_back}
 use Rattle.settings.specs.Values.{Values, entry}
 use Rattle.settings.specs.Valid.{valid}
 use Rattle.settings.specs.Image.{places, fields_of, image_of, number_at, entry_at, entries_at, read_of, load_of}
@@ -23,10 +23,10 @@ length_fields : (c : Values) → length (fields_of c) ≡ 12
 unfolding fields_of
 length_fields c = refl
 
-abbrev identifiers : Values → List ℕ
+abbrev pub identifiers : Values → List ℕ
 identifiers c = map (λ e. e.identifier) c.entries
 
-abbrev frequencies : Values → List ℕ
+abbrev pub frequencies : Values → List ℕ
 frequencies c = map (λ e. e.frequency) c.entries
 
 length_front : (c : Values) → length (fields_of c ++ places 32 (identifiers c)) ≡ 76
@@ -40,10 +40,6 @@ length_image c =
     ∙ omega (arith, length_front c, length_places 32 (frequencies c))
 
 -- ---- its bytes
-
-bytes_be : (k n : ℕ) → Bytes (be k n)
-bytes_be zero n = tt
-bytes_be (suc k) n = (omega arith, bytes_be k n)
 
 bytes_places : (n : ℕ) (vs : List ℕ) → Bytes (places n vs)
 unfolding places
@@ -63,15 +59,11 @@ bytes_image c =
 
 -- ---- what it spells out
 
--- a number that its width holds is read as it was written
-number_back : (w v : ℕ) → v < 256 ^ w → number_of (be w v) ≡ v
-number_back w v h = number_be w v ∙ mod-eq_of_lt h
-
--- wherever it stands
+-- a number that its width holds is read as it was written, wherever it stands
 number_here : (pre post : List ℕ) (at w v : ℕ) → length pre ≡ at → v < 256 ^ w → number_at (pre ++ (be w v ++ post)) at w ≡ v
 number_here pre post at w v l h =
     ap (λ ys. number_of (take w ys)) (drop_at pre (be w v ++ post) at l)
-    ∙ ap number_of (take_at (be w v) post w (length_be w v)) ∙ number_back w v h
+    ∙ ap number_of (take_at (be w v) post w (length_be w v)) ∙ be_back w v h
 
 place_here : (pre : List ℕ) (at : ℕ) (vs : List ℕ) → length pre ≡ at → (n i : ℕ) → i < n → get_or vs i 0 < 65536
     → (post : List ℕ) → number_at (pre ++ (places n vs ++ post)) (at + 2 * i) 2 ≡ get_or vs i 0
@@ -91,23 +83,36 @@ place_here pre at vs l (suc n) i h b post =
     (λ ne. place_here pre at vs l n i (omega arith) b (w ++ post))
     (cases_eq i n))
 
+-- the columns of an image
+
+pub identifier_at : (c : Values) (i : ℕ) → i < 32 → get_or (identifiers c) i 0 < 65536
+    → number_at (image_of c) (12 + 2 * i) 2 ≡ get_or (identifiers c) i 0
+unfolding image_of
+identifier_at c i h b =
+    let ids = places 32 (identifiers c) in
+    let hzs = places 32 (frequencies c) in
+    ap (λ ys. number_at ys (12 + 2 * i) 2) (append_assoc (fields_of c) ids hzs)
+    ∙ place_here (fields_of c) 12 (identifiers c) (length_fields c) 32 i h b hzs
+
+pub frequency_at : (c : Values) (i : ℕ) → i < 32 → get_or (frequencies c) i 0 < 65536
+    → number_at (image_of c) (76 + 2 * i) 2 ≡ get_or (frequencies c) i 0
+unfolding image_of
+frequency_at c i h b =
+    let ids = places 32 (identifiers c) in
+    let hzs = places 32 (frequencies c) in
+    ap (λ ys. number_at (fields_of c ++ ids ++ ys) (76 + 2 * i) 2) (sym (append-nil hzs))
+    ∙ place_here (fields_of c ++ ids) 76 (frequencies c) (length_front c) 32 i h b []
+
 module _ (c : Values) (f : Fits c) where
   entry_at_lem : (i : ℕ) → i < length c.entries → entry_at (image_of c) i ≡ get_or c.entries i (entry 0 0)
-  unfolding image_of
   entry_at_lem i h =
       let es = c.entries in
       let x = All-get_or Fit es i (entry 0 0) h f.each in
       let lt : i < 32 = omega (arith, f.few) in
       let id : get_or (identifiers c) i 0 ≡ (get_or es i (entry 0 0)).identifier = get_or-map (λ e. e.identifier) es i (entry 0 0) 0 h in
       let hz : get_or (frequencies c) i 0 ≡ (get_or es i (entry 0 0)).frequency = get_or-map (λ e. e.frequency) es i (entry 0 0) 0 h in
-      let ids = places 32 (identifiers c) in
-      let hzs = places 32 (frequencies c) in
-      let at1 : number_at (image_of c) (12 + 2 * i) 2 ≡ (get_or es i (entry 0 0)).identifier =
-      ap (λ ys. number_at ys (12 + 2 * i) 2) (append_assoc (fields_of c) ids hzs)
-      ∙ place_here (fields_of c) 12 (identifiers c) (length_fields c) 32 i lt (omega (arith, x.0, id)) hzs ∙ id in
-      let at2 : number_at (image_of c) (76 + 2 * i) 2 ≡ (get_or es i (entry 0 0)).frequency =
-      ap (λ ys. number_at (fields_of c ++ ids ++ ys) (76 + 2 * i) 2) (sym (append-nil hzs))
-      ∙ place_here (fields_of c ++ ids) 76 (frequencies c) (length_front c) 32 i lt (omega (arith, x.1, hz)) [] ∙ hz in
+      let at1 = identifier_at c i lt (omega (arith, x.0, id)) ∙ id in
+      let at2 = frequency_at c i lt (omega (arith, x.1, hz)) ∙ hz in
       λ t. entry (at1 t) (at2 t)
 
   entries_read : (n : ℕ) → n ≤ length c.entries → entries_at (image_of c) n ≡ take n c.entries
@@ -125,13 +130,13 @@ module _ (c : Values) (f : Fits c) where
   read_image =
       let n : ℕ = length c.entries in
       let es : entries_at (image_of c) (number_at (image_of c) 1 1) ≡ c.entries =
-      ap (entries_at (image_of c)) (number_back 1 n (omega (arith, f.few)))
+      ap (entries_at (image_of c)) (be_back 1 n (omega (arith, f.few)))
       ∙ entries_read n (omega arith) ∙ take_all n c.entries (omega arith) in
-      let b : number_at (image_of c) 2 1 ≡ c.baud = number_back 1 c.baud f.baud in
-      let p : number_at (image_of c) 3 1 ≡ c.profile = number_back 1 c.profile f.profile in
-      let m : number_at (image_of c) 4 2 ≡ c.error_mode = number_back 2 c.error_mode f.error_mode in
-      let l : number_at (image_of c) 6 2 ≡ c.location = number_back 2 c.location f.location in
-      let g : number_at (image_of c) 8 4 ≡ c.flags = number_back 4 c.flags (omega (arith, f.flags)) in
+      let b : number_at (image_of c) 2 1 ≡ c.baud = be_back 1 c.baud f.baud in
+      let p : number_at (image_of c) 3 1 ≡ c.profile = be_back 1 c.profile f.profile in
+      let m : number_at (image_of c) 4 2 ≡ c.error_mode = be_back 2 c.error_mode f.error_mode in
+      let l : number_at (image_of c) 6 2 ≡ c.location = be_back 2 c.location f.location in
+      let g : number_at (image_of c) 8 4 ≡ c.flags = be_back 4 c.flags (omega (arith, f.flags)) in
       λ t. record { product = c.product; baud = b t; profile = p t; error_mode = m t; location = l t; flags = g t; entries = es t }
 
 -- ---- what is loaded

@@ -1,7 +1,7 @@
 -- The tests of settings say what the words say.
 use Rattle.std.proofs.Common.{◌≡◌, ℕ, zero, suc, ◌<◌, true, not, eqb, ltb, leb, List, [], ◌∷◌, length, get_or, Some, None, Option, sym, refl, ◌∙◌, inl, inr, ⊎_elim, arith}
-use Rattle.std.specs.List.{ContainsAt as Has, AllByRecursion}
-use Rattle.std.proofs.ByRecursion.{all-has}
+use Rattle.std.specs.List.{Contains, AllByRecursion}
+use Rattle.std.proofs.lemmas.List.Elements.{All-contains, All-from_recursion}
 use Rattle.std.proofs.lemmas.Bool.{and_parts, and_from, or_cases, or_left, or_right, leb-true, ltb-true, eqb-true, eqb-false, le-leb, lt-ltb, eq-eqb, ne_eqb, not-true, not_from_false, false≢true}
 use Rattle.mti.specs.declared.product.Product.{Product}
 use Rattle.mti.specs.declared.output.Output.{Output}
@@ -81,10 +81,10 @@ unlisted_from channel [] h = refl
 unlisted_from channel (x ∷ es) h =
     and_from _ _ (not_from_false _ (ne_eqb _ _ (h 0 (omega arith)))) (unlisted_from channel es (λ j l. h (suc j) (omega arith)))
 
-entries_from : (p : Product) (es : List Entry) → ((e : Entry) → Has es e → Offered p e) → Apart es → valid_entries p es ≡ true
+entries_from : (p : Product) (es : List Entry) → ((e : Entry) → Contains es e → Offered p e) → Apart es → valid_entries p es ≡ true
 entries_from p [] each apart = refl
 entries_from p (x ∷ es) each apart =
-    and_from _ _ (offered_entry p x (each x (0, omega arith, λ d. refl)))
+    and_from _ _ (offered_entry p x (each x (0, omega arith, refl)))
     (and_from _ _
     (unlisted_from (plain x.identifier) es (λ j l e. apart 0 (suc j) (entry 0 0) (omega arith) (omega arith) (sym e)))
     (entries_from p es (λ e h. each e (suc h.0, omega (arith, h.1), h.2))
@@ -106,7 +106,7 @@ sound c v =
       location = ltb-true _ _ f.location;
       flags = bits_within c.flags (flag_bits c.product) (eqb-true _ _ f.flags);
       few = leb-true _ _ f.few;
-      each = λ e h. all-has (Offered c.product) c.entries e (entries_each c.product c.entries p.entries) h;
+      each = λ e h. All-contains (Offered c.product) c.entries e (All-from_recursion (Offered c.product) c.entries (entries_each c.product c.entries p.entries)) h;
       apart = entries_apart c.product c.entries p.entries;
     }
 

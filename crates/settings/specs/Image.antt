@@ -1,5 +1,5 @@
 -- The image under which settings are stored: 140 bytes.
-use Rattle.std.specs.Prelude.{ℕ, zero, suc, ◌+◌, ◌*◌, cond, ◌&&◌, List, [], ◌∷◌, ◌++◌, map, length, take, drop, Some, None, Option, slice_index}
+use Rattle.std.specs.Prelude.{ℕ, zero, suc, ◌+◌, ◌*◌, cond, ◌&&◌, List, [], ◌∷◌, ◌++◌, map, length, take, drop, Some, None, Option, slice_index_or}
 use Rattle.std.specs.Str.{bytes_eq}
 use Rattle.mti.specs.declared.product.Product.{Product}
 use Rattle.xbus.specs.Numbers.{be, number_of}
@@ -10,7 +10,7 @@ use Rattle.settings.specs.Valid.{valid}
 -- n numbers of two bytes: the first of vs, and 0 where vs has no more
 unfoldable pub places : ℕ → List ℕ → List ℕ
 places zero vs = []
-places (suc n) vs = places n vs ++ be 2 (slice_index vs n)
+places (suc n) vs = places n vs ++ be 2 (slice_index_or vs n 0)
 
 -- the two sizes, then ten bytes: baud code, profile, error mode, location, flags
 unfoldable pub fields_of : Values → List ℕ

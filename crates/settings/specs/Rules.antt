@@ -1,6 +1,6 @@
 -- Which settings a product can have, in words, and that the tests say the same.
 use Rattle.std.specs.Prelude.{◌≡◌, ℕ, ◌+◌, ◌/◌, ◌%◌, ◌^◌, ◌<◌, ◌≤◌, true, ◌⊎◌, length, ◌≢◌, slice_index_or}
-use Rattle.std.specs.List.{ContainsAt as Has}
+use Rattle.std.specs.List.{Contains}
 use Rattle.mti.specs.declared.product.Product.{Product}
 use Rattle.mti.specs.declared.output.Output.{Output}
 use Rattle.mti.specs.Channels.{offered_by}
@@ -29,7 +29,7 @@ pub record Valid (c : Values) : Type 0 where
   pub location : c.location < 65536
   pub flags : (k : ℕ) → Bit c.flags k → Bit (flag_bits c.product) k
   pub few : length c.entries ≤ 32
-  pub each : (e : Entry) → Has c.entries e → Offered c.product e
+  pub each : (e : Entry) → Contains c.entries e → Offered c.product e
   pub apart : (i j : ℕ) (d : Entry) → i < j → j < length c.entries
       → plain (slice_index_or c.entries i d).identifier ≢ plain (slice_index_or c.entries j d).identifier
 

@@ -23,12 +23,12 @@ first_profile MtiG710 = 1
 abbrev pub valid_profile : Product → ℕ → Bool
 valid_profile p f = nat_le (first_profile p) f && nat_le f (first_profile p + 4)
 
--- the flag bits of a product: 01, 02, 10, 80; 10, 80; 04, 10, 80
+-- the flag bits of a product
 abbrev pub flag_bits : Product → ℕ
-flag_bits Mti3 = 0x93
-flag_bits Mti30 = 0x90
-flag_bits Mti300 = 0x90
-flag_bits MtiG710 = 0x94
+flag_bits Mti3 = 0x01 + 0x02 + 0x10 + 0x80
+flag_bits Mti30 = 0x10 + 0x80
+flag_bits Mti300 = 0x10 + 0x80
+flag_bits MtiG710 = 0x04 + 0x10 + 0x80
 
 -- no bit that is not the product's
 abbrev pub valid_flags : Product → ℕ → Bool

@@ -5,7 +5,7 @@ ghost use Rattle.store.specs.Meaning.{image_size};
 ghost use Rattle.settings.specs.declared.record.Entry.{Entry};
 ghost use Rattle.settings.specs.Values.{listed};
 ghost use Rattle.settings.specs.Image.{places, fields_of, image_of};
-ghost use Rattle.settings.specs.Stored.{StoredSaid};
+ghost use Rattle.settings.specs.Stored.{ImageSaid, StoredSaid};
 ghost use Rattle.settings.specs.View.{values_of};
 
 use super::Settings;
@@ -54,6 +54,7 @@ impl Settings {
     pub fn image(&self) -> [u8; IMAGE]
         ensures is { result ≡ image_of (values_of self.now) }
         ensures size { length result ≡ image_size }
+        ensures bytes { ImageSaid }
         ensures said { StoredSaid }
     {
         let entries = &self.values.entries;

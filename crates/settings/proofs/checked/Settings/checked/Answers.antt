@@ -1,3 +1,4 @@
+-- Values are given as settings exactly where they pass the test.
 use Rattle.std.proofs.Common.{sym}
 use Rattle.std.proofs.lemmas.Bool.{cond-true, cond-false}
 use Rattle.settings.specs.View.{checked_of}

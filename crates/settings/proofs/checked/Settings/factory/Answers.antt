@@ -1,3 +1,4 @@
+-- The first profile and the factory's entries make the factory's values, which are valid.
 use Rattle.std.proofs.Common.{ap, ◌∙◌}
 use Rattle.settings.specs.Values.{listed}
 use Rattle.settings.specs.Valid.{valid}

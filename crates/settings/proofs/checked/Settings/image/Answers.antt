@@ -4,6 +4,7 @@ use Rattle.settings.specs.declared.record.Entry.{Entry}
 use Rattle.settings.specs.Image.{places, fields_of, image_of}
 use Rattle.settings.specs.View.{values_of}
 use Rattle.settings.proofs.Columns.{room_left, parts_written}
+use Rattle.settings.proofs.Placing.{image_said}
 use Rattle.settings.proofs.Stores.{stored_said, length_image}
 use Rattle.settings.proofs.checked.Settings.image.Goals as goal
 
@@ -22,7 +23,7 @@ returns c =
     parts_written c.copy_from_slice.new.self c.copy_from_slice-2.new.self _ (omega (arith, c.copy_from_slice.ensures.len))
     (omega (arith, c.copy_from_slice-2.ensures.len)) refl c.copy_from_slice-3.new.self (omega (arith, c.copy_from_slice-3.ensures.len))
     ∙ (λ t. (a t ++ b t) ++ d t) in
-    record { is = is; size = ap length is ∙ length_image v; said = stored_said }
+    record { is = is; size = ap length is ∙ length_image v; bytes = image_said; said = stored_said }
 
 pub slice_bounds-out-end-3 : goal.slice_bounds-out-end-3
 slice_bounds-out-end-3 c =

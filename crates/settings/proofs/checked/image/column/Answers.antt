@@ -2,9 +2,10 @@
 use Rattle.std.proofs.Common.{◌≡◌, map, length, take, get_or, ◌+◌, ◌-◌, sym, refl, ap, ◌∙◌, arith}
 use Rattle.std.proofs.lemmas.List.{map_more, length-map, length-take-le}
 use Rattle.xbus.specs.Numbers.{be}
+use Rattle.xbus.proofs.Widths.{two_bytes}
 use Rattle.settings.specs.Values.{entry}
 use Rattle.settings.specs.Image.{places}
-use Rattle.settings.proofs.Columns.{place_more, two_bytes}
+use Rattle.settings.proofs.Columns.{place_more}
 use Rattle.settings.proofs.checked.image.column.Goals as goal
 
 pub loop-i-init : goal.loop-i-init

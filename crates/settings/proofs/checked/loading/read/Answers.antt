@@ -1,3 +1,4 @@
+-- Each value is the number at its place, and there are as many entries as byte 1 says.
 use Rattle.std.proofs.Common.{ap, ◌∙◌, arith}
 use Rattle.settings.specs.Image.{entries_at, read_of}
 use Rattle.settings.proofs.Spelt.{byte_at, two_at, four_at}

@@ -1,3 +1,4 @@
+-- Each identifier gives one entry more, for which there is room.
 use Rattle.std.proofs.Common.{map, get_or, take, sym, ap, ◌∙◌, arith}
 use Rattle.std.proofs.lemmas.List.{map_more, take_all, length-map, length-take}
 use Rattle.std.specs.Result.{is_ok}

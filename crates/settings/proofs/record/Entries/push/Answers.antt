@@ -1,3 +1,4 @@
+-- An entry is taken exactly where fewer than 32 stand, and it is the element behind them.
 use Rattle.std.proofs.Common.{length, sym, arith}
 use Rattle.std.proofs.lemmas.List.{length-take-le, take_more_set}
 use Rattle.std.proofs.lemmas.Bool.{lt-ltb}
