@@ -13,7 +13,7 @@ use Rattle.session.proofs.Flows.{Flow, ahead, framed, flow, flow_end}
 use Rattle.session.proofs.Happens.{Happens}
 use Rattle.session.proofs.Sound.{happens_number}
 use Rattle.session.proofs.Meant.{does_meant}
-use Rattle.session.proofs.Stories.{Inv, inv_making}
+use Rattle.session.proofs.Always.{Inv, inv_making}
 use Rattle.session.proofs.Runs.{Told, told, wrote_in}
 
 -- the same happenings from the same core: the same end, and the same bytes
@@ -33,18 +33,18 @@ module _ (v w : World) (a : Alike v w) where
       ∙ does_meant v w n.what n.before a (subst (λ (c : Core). c.counts.number < 2 ^ 32) b t)
       ∙ sym y.done
 
-  tale_agrees : (ms ns : List Moment) (c d e : Core) → AllByRecursion (Happens v) ms → AllByRecursion (Happens w) ns → Linked c ms d → Linked c ns e
+  moments_agrees : (ms ns : List Moment) (c d e : Core) → AllByRecursion (Happens v) ms → AllByRecursion (Happens w) ns → Linked c ms d → Linked c ns e
       → what_in ms ≡ what_in ns → c.counts.number < 2 ^ 32 → Agrees ms ns d e
-  tale_agrees [] [] c d e x y l k h t = record { wrote = refl; ends = sym l ∙ k }
-  tale_agrees [] (n ∷ ns) c d e x y l k h t = let z : ◌≡◌ {A = ℕ} 0 1 = cc in absurd (omega arith)
-  tale_agrees (m ∷ ms) [] c d e x y l k h t = let z : ◌≡◌ {A = ℕ} 0 1 = cc in absurd (omega arith)
-  tale_agrees (m ∷ ms) (n ∷ ns) c d e (x, xs) (y, ys) (b, l) (g, k) h t =
+  moments_agrees [] [] c d e x y l k h t = record { wrote = refl; ends = sym l ∙ k }
+  moments_agrees [] (n ∷ ns) c d e x y l k h t = let z : ◌≡◌ {A = ℕ} 0 1 = cc in absurd (omega arith)
+  moments_agrees (m ∷ ms) [] c d e x y l k h t = let z : ◌≡◌ {A = ℕ} 0 1 = cc in absurd (omega arith)
+  moments_agrees (m ∷ ms) (n ∷ ns) c d e (x, xs) (y, ys) (b, l) (g, k) h t =
       let p : m.what ≡ n.what = cc in
       let q : what_in ms ≡ what_in ns = cc in
       let bt : m.before.counts.number < 2 ^ 32 = subst (λ (c : Core). c.counts.number < 2 ^ 32) (sym b) t in
       let s = step_agrees m n x y p (b ∙ sym g) bt in
       let after : n.after ≡ m.after = ap (λ (r : Core × List ℕ). r.0) (sym s) in
-      let rest = tale_agrees ms ns m.after d e xs ys l (subst (λ (c : Core). Linked c ns e) after k) q (happens_number v m x bt) in
+      let rest = moments_agrees ms ns m.after d e xs ys l (subst (λ (c : Core). Linked c ns e) after k) q (happens_number v m x bt) in
       record {
         wrote = ap₂ (λ (i j : List ℕ). i ++ j) (ap (λ (r : Core × List ℕ). r.1) s) rest.wrote;
         ends = rest.ends;
@@ -93,6 +93,6 @@ agreeing v w ds es j k a s t e p q =
     ∙ ap₂ (λ (b : List ℕ) (t : List Event). flow b t) (empty_making v ∙ sym (empty_making w)) e
     ∙ off_tape w es k t q in
     let l : Linked (making v).core (story w es) k.core = subst (λ (c : Core). Linked c (story w es) k.core) (sym (core_making v w a)) y.linked in
-    let g = tale_agrees v w a (story v ds) (story w es) (making v).core j.core k.core x.each y.each x.linked l
+    let g = moments_agrees v w a (story v ds) (story w es) (making v).core j.core k.core x.each y.each x.linked l
     (ap (λ (r : Flow). r.0) f) (number_making v) in
     (sym x.wrote ∙ g.wrote ∙ y.wrote, ap₂ (λ (c : Core) (b : List ℕ). record { core = c; waiting = b }) g.ends (ap (λ (r : Flow). r.1) f))

@@ -15,7 +15,6 @@ use Rattle.config.specs.Changed.{with_baud, with_profile, with_error_mode, with_
 use Rattle.config.specs.Answered.{answer_of, configuration_of, output_bytes}
 use Rattle.config.proofs.Edits.{checked_some}
 use Rattle.config.proofs.Fittings.{outputs_sound}
-use Rattle.config.proofs.Exacts.{changed_said}
 use Rattle.config.proofs.Layouts.{configuration_said, answer_bound}
 
 pub changed_valid : (s t : Values) (ch : Changing) → changed_of s ch ≡ Some t → valid t ≡ true
@@ -29,9 +28,6 @@ changed_valid s t (Outputs xs) e = (outputs_sound s xs t e).1
 changed_valid s t Factory e =
     let f : factory_of s.product ≡ t = cc in
     subst (λ (x : Values). valid x ≡ true) f (factory_valid s.product)
-
-pub changed_product : (s t : Values) (ch : Changing) → changed_of s ch ≡ Some t → t.product ≡ s.product
-changed_product s t ch e = changed_said.product s t ch e
 
 pub factory_product : (p : Product) → (factory_of p).product ≡ p
 unfolding factory_of

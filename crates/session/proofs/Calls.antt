@@ -15,7 +15,7 @@ use Rattle.session.specs.Serving.{Step, served}
 use Rattle.session.specs.Ticking.{tick}
 use Rattle.session.specs.Filling.{is_whole, fills, filled}
 use Rattle.session.specs.Calls.{Called, with_core, refuses, powered, least_tray, writes, power_call, takes, serves, feed_by, fill, feed_call, too_long, tick_call}
-use Rattle.session.specs.Sessions.{Entry, Power, Feed, Tick, next, Fair, output, taken_by, taken_in, served_by, served_in, Event, On, Byte, Beat, if_accepted, events}
+use Rattle.session.specs.Sessions.{Entry, Power, Feed, Tick, next, Fair, output, taken_by, taken_in, served_by, served_in, Event, Powered, Byte, Ticked, if_accepted, events}
 use Rattle.session.specs.Moments.{Happening, powers, ticks, first_served, behind_first, accepted, fed_frame, fed_rest, happening, unserved}
 use Rattle.session.proofs.Readings.{is_whole_lem, parts_whole, parts_none}
 
@@ -34,7 +34,7 @@ module _ (m : Model) (n : ℕ) where
       cond_both (powered m) _ _ P (λ _. ref refusal.AlreadyPowered)
       (λ d. cond_both (ltb n least_tray) _ _ P (λ _. ref refusal.ShortTray) (λ _. done d))
 
-  quiet_parts : (b : Bool) → is_whole m.waiting ≡ b → is_some (first_parts m.waiting) ≡ b
+  pub quiet_parts : (b : Bool) → is_whole m.waiting ≡ b → is_some (first_parts m.waiting) ≡ b
   quiet_parts true e = let q = is_whole_lem m.waiting e in ap is_some (parts_whole m.waiting q.0 q.1)
   quiet_parts false e = ap is_some (parts_none m.waiting e)
 
@@ -94,21 +94,21 @@ pub data Went (m : Model) : Model → List ℕ → List Event → ℕ → List �
       → Went m (with_core m (serving m (filled m.waiting bs) k).0 (passed (filled m.waiting bs)))
       (serving m (filled m.waiting bs) k).1 (map Byte (take (fills m.waiting bs) bs)) 1 (take (fills m.waiting bs) bs)
       first_served behind_first
-  woke : powered m ≡ false → Went m (with_core m (woken m.core) m.waiting) wake_up (On ∷ []) 0 [] (λ _. Some powers) (λ fs. fs)
-  beat : powered m ≡ true → is_whole m.waiting ≡ false → too_long m ≡ false
+  woke : powered m ≡ false → Went m (with_core m (woken m.core) m.waiting) wake_up (Powered ∷ []) 0 [] (λ _. Some powers) (λ fs. fs)
+  ticking : powered m ≡ true → is_whole m.waiting ≡ false → too_long m ≡ false
       → Went m (with_core m (tick m.device_id m.meaning m.core).0 m.waiting) (tick m.device_id m.meaning m.core).1
-      (Beat ∷ []) 0 [] (λ _. Some ticks) (λ fs. fs)
+      (Ticked ∷ []) 0 [] (λ _. Some ticks) (λ fs. fs)
 
 module _ (m : Model) (n : ℕ) where
-  went_power : let c = power_call m n in Went m c.0 c.1 (if_accepted On c.2) 0 [] (λ _. accepted powers c.2) (λ fs. fs)
+  went_power : let c = power_call m n in Went m c.0 c.1 (if_accepted Powered c.2) 0 [] (λ _. accepted powers c.2) (λ fs. fs)
   went_power =
-      power_by m n (λ c. Went m c.0 c.1 (if_accepted On c.2) 0 [] (λ _. accepted powers c.2) (λ fs. fs))
+      power_by m n (λ c. Went m c.0 c.1 (if_accepted Powered c.2) 0 [] (λ _. accepted powers c.2) (λ fs. fs))
       (λ _. refused) (λ d. woke d)
 
-  went_tick : let c = tick_call m n in Went m c.0 c.1 (if_accepted Beat c.2) 0 [] (λ _. accepted ticks c.2) (λ fs. fs)
+  went_tick : let c = tick_call m n in Went m c.0 c.1 (if_accepted Ticked c.2) 0 [] (λ _. accepted ticks c.2) (λ fs. fs)
   went_tick =
-      tick_by_lem m n (λ c. Went m c.0 c.1 (if_accepted Beat c.2) 0 [] (λ _. accepted ticks c.2) (λ fs. fs))
-      (λ _. refused) (λ d q t. beat d q t)
+      tick_by_lem m n (λ c. Went m c.0 c.1 (if_accepted Ticked c.2) 0 [] (λ _. accepted ticks c.2) (λ fs. fs))
+      (λ _. refused) (λ d q t. ticking d q t)
 
   went_feed : (bs : List ℕ) → let c = feed_call m bs n in
       Went m c.0 c.1 (map Byte (taken_by bs c.2)) (served_by c.2) (taken_by bs c.2) (λ fs. fed_frame fs c.2) (λ fs. fed_rest fs c.2)
@@ -122,7 +122,7 @@ pub went : (m : Model) (e : Entry) → Fair m e
     → Went m (next m e) (output e) (events e) (served_in e) (taken_in e) (λ fs. happening fs e) (λ fs. unserved fs e)
 unfolding next
 went m (Power n o a) (f, g) =
-    subst₂ (λ (x : List ℕ) (y : Result ℕ Refusal). Went m (power_call m n).0 x (if_accepted On y) 0 [] (λ _. accepted powers y) (λ fs. fs))
+    subst₂ (λ (x : List ℕ) (y : Result ℕ Refusal). Went m (power_call m n).0 x (if_accepted Powered y) 0 [] (λ _. accepted powers y) (λ fs. fs))
     (sym f) (sym g) (went_power m n)
 went m (Feed bs n o a) (f, g) =
     subst₂
@@ -130,5 +130,5 @@ went m (Feed bs n o a) (f, g) =
     Went m (feed_call m bs n).0 x (map Byte (taken_by bs y)) (served_by y) (taken_by bs y) (λ fs. fed_frame fs y) (λ fs. fed_rest fs y))
     (sym f) (sym g) (went_feed m n bs)
 went m (Tick n o a) (f, g) =
-    subst₂ (λ (x : List ℕ) (y : Result ℕ Refusal). Went m (tick_call m n).0 x (if_accepted Beat y) 0 [] (λ _. accepted ticks y) (λ fs. fs))
+    subst₂ (λ (x : List ℕ) (y : Result ℕ Refusal). Went m (tick_call m n).0 x (if_accepted Ticked y) 0 [] (λ _. accepted ticks y) (λ fs. fs))
     (sym f) (sym g) (went_tick m n)

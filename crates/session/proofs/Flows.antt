@@ -5,7 +5,7 @@ use Rattle.xbus.specs.declared.front.Front.TheVariants.{Whole}
 use Rattle.xbus.specs.Front.{front_of}
 use Rattle.xbus.specs.Parts.{parts_of}
 use Rattle.session.specs.Filling.{is_whole, fills, filled}
-use Rattle.session.specs.Sessions.{Event, On, Byte, Beat}
+use Rattle.session.specs.Sessions.{Event, Powered, Byte, Ticked}
 use Rattle.session.specs.Moments.{Happening, powers, serves, ticks, frames_in, left_in}
 use Rattle.stream.specs.Waiting.{passed}
 use Rattle.session.proofs.Readings.{Read, reads, onto, reads_quiet, reads_filled, reads_passed, Settled}
@@ -23,9 +23,9 @@ framed fs = map (λ f. serves (parts_of f)) fs
 -- bytes are read as they come; power and ticks find the frames before them served
 pub flow : List ℕ → List Event → Flow
 flow w [] = (framed (frames_in w), left_in w)
-flow w (On ∷ t) = ahead (framed (frames_in w) ++ (powers ∷ [])) (flow (left_in w) t)
+flow w (Powered ∷ t) = ahead (framed (frames_in w) ++ (powers ∷ [])) (flow (left_in w) t)
 flow w (Byte b ∷ t) = flow (w ++ (b ∷ [])) t
-flow w (Beat ∷ t) = ahead (framed (frames_in w) ++ (ticks ∷ [])) (flow (left_in w) t)
+flow w (Ticked ∷ t) = ahead (framed (frames_in w) ++ (ticks ∷ [])) (flow (left_in w) t)
 
 pub flow_end : (w : List ℕ) → flow w [] ≡ (framed (frames_in w), left_in w)
 unfolding flow
@@ -63,11 +63,11 @@ flow_between h t v w fs r =
 pub flow_reads : (t : List Event) (v w : List ℕ) (fs : List (List ℕ)) → ReadsAs v fs w → flow v t ≡ ahead (framed fs) (flow w t)
 unfolding flow
 flow_reads [] v w fs h = ap₂ (λ (x : List Happening) (y : List ℕ). (x, y)) (framed_onto v w fs h) (left_onto v w fs h)
-flow_reads (On ∷ t) v w fs h = flow_between powers t v w fs h
+flow_reads (Powered ∷ t) v w fs h = flow_between powers t v w fs h
 flow_reads (Byte b ∷ t) v w fs h =
     flow_reads t (v ++ (b ∷ [])) (w ++ (b ∷ [])) fs
     (λ more. ap reads (append_assoc v (b ∷ []) more) ∙ h (b ∷ more) ∙ ap (λ (x : List ℕ). onto fs (reads x)) (sym (append_assoc w (b ∷ []) more)))
-flow_reads (Beat ∷ t) v w fs h = flow_between ticks t v w fs h
+flow_reads (Ticked ∷ t) v w fs h = flow_between ticks t v w fs h
 
 -- a feed: the bytes that it takes lead to what waits, or to the frame that it serves
 
@@ -84,10 +84,10 @@ pub flow_quiet : (h : Happening) (w : List ℕ) (t : List Event) → is_whole w 
 flow_quiet h w t e s =
     ap (λ (r : Read). ahead (framed r.0 ++ (h ∷ [])) (flow r.1 t)) (reads_quiet w e s)
 
-pub flow_on : (w : List ℕ) (t : List Event) → is_whole w ≡ false → Settled w → flow w (On ∷ t) ≡ ahead (powers ∷ []) (flow w t)
+pub flow_power : (w : List ℕ) (t : List Event) → is_whole w ≡ false → Settled w → flow w (Powered ∷ t) ≡ ahead (powers ∷ []) (flow w t)
 unfolding flow
-flow_on w t e s = flow_quiet powers w t e s
+flow_power w t e s = flow_quiet powers w t e s
 
-pub flow_beat : (w : List ℕ) (t : List Event) → is_whole w ≡ false → Settled w → flow w (Beat ∷ t) ≡ ahead (ticks ∷ []) (flow w t)
+pub flow_tick : (w : List ℕ) (t : List Event) → is_whole w ≡ false → Settled w → flow w (Ticked ∷ t) ≡ ahead (ticks ∷ []) (flow w t)
 unfolding flow
-flow_beat w t e s = flow_quiet ticks w t e s
+flow_tick w t e s = flow_quiet ticks w t e s

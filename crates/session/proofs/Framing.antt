@@ -88,7 +88,7 @@ shown_frame p c s ch h e = let f = shown_fits ch s (changed_valid c s ch e) in r
 -- the message of a tick
 
 sample_frames : (is : List Item) → Bytes (flat_map packet_bytes is) → length (flat_map packet_bytes is) ≤ 2048
-    → Framed (frame_so_far is) (counted (tick_row false (ltb 0 (length is))))
+    → Framed (frame_so_far is) (counted (tick_row false false (ltb 0 (length is))))
 sample_frames [] b s = none
 sample_frames (i ∷ is) b s =
     rw (lt-ltb 0 (length (i ∷ is)) (omega arith))
@@ -112,9 +112,9 @@ module _ {w : World} {c : Core} where
   way_frames (asking {p} q f) v short =
       one _ (reply_frame p (answer_of w.device_id c.settings q) f.here (answer_bytes _ _ q v) (answer_short _ _ q v))
   way_frames (saving {p} ch s f e _ _) v short =
-      one _ (shown_frame p c.settings s ch f.here e)
+      one _ (shown_frame p c.settings s ch f.allowed.here e)
   way_frames (changing {p} ch s f e _) v short =
-      one _ (shown_frame p c.settings s ch f.here e)
+      one _ (shown_frame p c.settings s ch f.allowed.here e)
   way_frames (sleeping _ _) v short = none
   way_frames (pausing _ _ _) v short = none
   way_frames (passing _ _ _) v short = one _ (configuration_frame w.device_id c.settings v)

@@ -10,14 +10,16 @@ use Rattle.session.specs.Model.{Kept, Model, World, making}
 use Rattle.session.specs.Sessions.{Entry, Feed, Fair, next, Session, written, bytes_taken}
 use Rattle.session.specs.Moments.{Moment, serves, frames_of, frames_in, left_in, moments_from, moments}
 use Rattle.session.specs.Counting.{last_image}
+use Rattle.session.specs.Moves.{Moved}
 use Rattle.session.specs.Laws.{Linked, Done, Replied, Lawful, Begins, Extended}
 use Rattle.session.proofs.Calls.{fed_left}
 use Rattle.session.proofs.Readings.{Read, reads_quiet}
 use Rattle.session.proofs.Happens.{Happens}
 use Rattle.session.proofs.Replying.{happens_replied}
-use Rattle.session.proofs.Stories.{inv_making}
+use Rattle.session.proofs.Always.{inv_making, inv_ended}
+use Rattle.session.proofs.Moving.{happens_moved}
 use Rattle.session.proofs.Runs.{Told, told}
-use Rattle.session.proofs.Tales.{Frames, moment_frames, tale_frames, tale_cost, tale_held, tale_restores, tale_restorable}
+use Rattle.session.proofs.OverMoments.{Frames, moment_frames, moments_frames, moments_cost, moments_held, moments_restores, moments_restorable}
 use Rattle.session.proofs.Agreeing.{agreeing}
 
 all_of : {X : Type 0} (P Q : X → Type 0) → ((x : X) → P x → Q x) → (xs : List X) → AllByRecursion P xs → AllByRecursion Q xs
@@ -80,7 +82,7 @@ unfolding moments
 lawful w es k s =
     let t = moments_told w es k s in
     let ms : List Moment = moments_from (making w) (frames_in (bytes_taken es)) es in
-    let out = subst (λ (x : List ℕ). Frames x (moment_frames w.meaning ms)) t.wrote (tale_frames w ms t.each) in
+    let out = subst (λ (x : List ℕ). Frames x (moment_frames w.meaning ms)) t.wrote (moments_frames w ms t.each) in
     let l = left_told w es k t in
     let Chain : List Moment → Type 0 = λ xs. Linked (making w).core xs k.core in
     record {
@@ -98,22 +100,24 @@ lawful w es k s =
       outputs = t.wrote;
       done = all_of (Happens w) (Done w) (λ m h. h.done) ms t.each;
       replied = all_of (Happens w) (λ m. (p : Parts) → m.what ≡ serves p → Replied p m) (λ m h. happens_replied w m h) ms t.each;
-      restores = λ a b c x r e. tale_restores w a b c x r (making w).core k.core (subst (AllByRecursion (Happens w)) e t.each) (subst Chain e t.linked);
-      restorable = λ a c r e. tale_restorable w a c r (making w).core k.core (subst (AllByRecursion (Happens w)) e t.each) (subst Chain e t.linked) (dark_told w es k);
+      moved = all_of (Happens w) Moved (λ m h. happens_moved w m h) ms t.each;
+      restores = λ a b c x r e. moments_restores w a b c x r (making w).core k.core (subst (AllByRecursion (Happens w)) e t.each) (subst Chain e t.linked);
+      restorable = λ a c r e. moments_restorable w a c r (making w).core k.core (subst (AllByRecursion (Happens w)) e t.each) (subst Chain e t.linked) (dark_told w es k);
       all_frames = all_read (written es) (moment_frames w.meaning ms) out;
       counted = all_counted (written es) (moment_frames w.meaning ms) out;
-      cost = ap (λ (x : Kept). x.left) (sym (store_told w es k)) ∙ tale_cost w ms (making w).core k.core t.each t.linked;
-      held = tale_held w ms (making w).core k.core t.each t.linked ∙ ap (λ (x : Kept). last_image x.held ms) (store_told w es k);
+      cost = ap (λ (x : Kept). x.left) (sym (store_told w es k)) ∙ moments_cost w ms (making w).core k.core t.each t.linked;
+      held = moments_held w ms (making w).core k.core t.each t.linked ∙ ap (λ (x : Kept). last_image x.held ms) (store_told w es k);
+      ended = inv_ended w k t.inv;
     }
 
 -- ---- one more call
 
-session_more : (es : List Entry) (m k : Model) (e : Entry) → Session m es k → Fair k e → Session m (es ++ (e ∷ [])) (next k e)
+pub session_more : (es : List Entry) (m k : Model) (e : Entry) → Session m es k → Fair k e → Session m (es ++ (e ∷ [])) (next k e)
 unfolding Session
 session_more [] m k e s f = (subst (λ (x : Model). Fair x e) (sym s) f, ap (λ (x : Model). next x e) s)
 session_more (d ∷ es) m k e (g, s) f = (g, session_more es (next m d) k e s f)
 
-session_none : (m : Model) → Session m [] m
+pub session_none : (m : Model) → Session m [] m
 unfolding Session
 session_none m = refl
 

@@ -1,11 +1,11 @@
 -- The packets of a tick: their sizes, their bytes, and that they are well-formed.
-use Rattle.std.proofs.Common.{◌≡◌, ℕ, zero, suc, ◌+◌, ◌*◌, ◌<◌, ◌≤◌, false, eqb, List, [], ◌∷◌, length, ℤ, IfSome, Some, None, Option, sym, refl, ap, ◌∙◌, mod-lt, arith, lit<}
+use Rattle.std.proofs.Common.{◌≡◌, ℕ, zero, suc, ◌+◌, ◌*◌, ◌<◌, ◌≤◌, false, eqb, List, [], ◌∷◌, length, ℤ, IfSome, Some, None, Option, sym, refl, ap, ◌∙◌, arith}
 use Rattle.std.specs.List.{flat_map, AllByRecursion}
 use Rattle.std.specs.Option.{option_map}
 use Rattle.std.proofs.lemmas.List.{length-append}
 use Rattle.std.proofs.lemmas.Bool.{cond_both, eqb-true, or_from}
 use Rattle.xbus.specs.Numbers.{Bytes, be}
-use Rattle.xbus.proofs.Bytes.{bytes_append}
+use Rattle.xbus.proofs.Bytes.{bytes_append, bytes_be}
 use Rattle.xbus.proofs.Widths.{length_be}
 use Rattle.mti.specs.declared.channel.Channel.{Channel}
 use Rattle.mti.specs.declared.channel.Kind.{Kind}
@@ -103,10 +103,6 @@ data_size_lem f n i o xs e d =
 
 -- ---- bytes
 
-pub be_bytes : (k n : ℕ) → Bytes (be k n)
-be_bytes zero n = tt
-be_bytes (suc k) n = (mod-lt _ (lit< tt), be_bytes k n)
-
 reals_bytes : (readings : ℕ → Option ℤ) (p : Precision) (k n : ℕ) → IfThere Bytes (reals_from readings p k n)
 reals_bytes readings p k zero = tt
 reals_bytes readings p k (suc n) = by (readings k) (reals_from readings p (k + 1) n) (reals_bytes readings p (k + 1) n)
@@ -118,14 +114,14 @@ reals_bytes readings p k (suc n) = by (readings k) (reals_from readings p (k + 1
 
 measured_bytes : (readings : ℕ → Option ℤ) (p : Precision) (k : Kind) → IfThere Bytes (measured readings p k)
 measured_bytes readings p (Real n) = reals_bytes readings p 0 n
-measured_bytes readings p (Whole w) = mapped_there Bytes w (readings 0) (λ v. be_bytes w (twos w v))
+measured_bytes readings p (Whole w) = mapped_there Bytes w (readings 0) (λ v. bytes_be w (twos w v))
 
 -- whatever the output
 pub data_bytes_lem : (f : Meaning) (n : Counts) (o : Output) (xs : List ℕ) → data_of f n o ≡ Some xs → Bytes xs
 data_bytes_lem f n o xs d =
     there Bytes (data_of f n o) xs
-    (data_by_lem f n o (IfThere Bytes) (λ h. be_bytes 2 _) (λ h. be_bytes 4 _) (λ h. be_bytes 4 _)
-    (λ h. mapped_there Bytes 1 _ (λ v. be_bytes 1 _)) (λ u. measured_bytes _ o.precision o.channel.kind))
+    (data_by_lem f n o (IfThere Bytes) (λ h. bytes_be 2 _) (λ h. bytes_be 4 _) (λ h. bytes_be 4 _)
+    (λ h. mapped_there Bytes 1 _ (λ v. bytes_be 1 _)) (λ u. measured_bytes _ o.precision o.channel.kind))
     d
 
 -- ---- packets
@@ -159,7 +155,7 @@ packets_bytes f n (e ∷ es) =
     (λ o xs k d.
     let s = data_short f n e.identifier o xs k d in
     bytes_append (packet_bytes (item_of e.identifier xs)) (flat_map packet_bytes (packets f n es))
-    (bytes_append (be 2 e.identifier) (length xs ∷ xs) (be_bytes 2 e.identifier) (omega arith, data_bytes_lem f n o xs d))
+    (bytes_append (be 2 e.identifier) (length xs ∷ xs) (bytes_be 2 e.identifier) (omega arith, data_bytes_lem f n o xs d))
     (packets_bytes f n es))
 
 pub packets_formed : (f : Meaning) (n : Counts) (es : List Entry) → AllByRecursion (λ e. e.identifier < 65536) es → EachWellFormed (packets f n es)

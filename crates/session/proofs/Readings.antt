@@ -1,6 +1,6 @@
 -- Reading what waits together with more bytes: dropping, filling and passing take nothing from what reading takes.
 use Rattle.std.proofs.Common.{◌≡◌, ℕ, suc, ◌≤◌, true, false, ◌⊎◌, List, [], ◌∷◌, ◌++◌, length, take, drop, Some, None, sym, refl, ap, ◌∙◌, subst, ap₂, inl, inr, ⊎_elim, append_assoc, one-add, arith}
-use Rattle.std.proofs.lemmas.List.{take-append-le, drop-append-le}
+use Rattle.std.proofs.lemmas.List.{take-append-le, drop-append-le, length-append, length-drop}
 use Rattle.std.proofs.lemmas.Bool.{cases_Bool, cond_both, true≢false, false≢true}
 use Rattle.xbus.specs.declared.front.Front.{Front}
 use Rattle.xbus.specs.declared.front.Front.TheVariants.{Whole, Waits, Wrong}
@@ -95,9 +95,6 @@ if_none (Whole n) g y e = absurd (true≢false e)
 if_none Waits g y e = refl
 if_none Wrong g y e = refl
 
-pub whole_front : (w : List ℕ) (n : ℕ) → front_of w ≡ Whole n → is_whole w ≡ true
-whole_front w n e = ap (λ (f : Front). if_whole f (λ _. true) false) e
-
 none_front : (f : Front) → if_whole f (λ _. true) false ≡ false → (f ≡ Wrong → ⊥) → f ≡ Waits
 none_front (Whole n) e s = absurd (true≢false e)
 none_front Waits e s = refl
@@ -148,6 +145,22 @@ settled_filled [] w s = s
 settled_filled (b ∷ bs) w s =
     cond_both (is_whole w) w (filled (took w b) bs) Settled (λ _. s) (λ e. settled_filled bs (took w b) (settled_took w b e))
 
+-- no more than the longest frame waits: bytes that wait are fewer
+
+few_took : (w : List ℕ) (b : ℕ) → is_whole w ≡ false → Settled w → length (took w b) ≤ 2055
+few_took w b e s =
+    let f = (front_bounded w).waits (waits_front w e s) in
+    let l = length-drop (dropped (w ++ (b ∷ []))) (w ++ (b ∷ [])) in
+    let k = length-append w (b ∷ []) in
+    rw took_settles (omega arith)
+
+pub few_filled : (bs w : List ℕ) → Settled w → length w ≤ 2055 → length (filled w bs) ≤ 2055
+unfolding filled
+few_filled [] w s l = l
+few_filled (b ∷ bs) w s l =
+    cond_both (is_whole w) w (filled (took w b) bs) (λ (x : List ℕ). length x ≤ 2055) (λ _. l)
+    (λ e. few_filled bs (took w b) (settled_took w b e) (few_took w b e s))
+
 pub filled_whole : (w bs : List ℕ) → is_whole w ≡ true → filled w bs ≡ w
 unfolding filled
 filled_whole w [] e = refl
@@ -158,19 +171,19 @@ unfolding fills
 fills_whole w [] e = refl
 fills_whole w (b ∷ bs) e = rw e
 
-filled_more : (w bs : List ℕ) (b : ℕ) → is_whole w ≡ false → filled w (b ∷ bs) ≡ filled (took w b) bs
+pub filled_more : (w bs : List ℕ) (b : ℕ) → is_whole w ≡ false → filled w (b ∷ bs) ≡ filled (took w b) bs
 unfolding filled
 filled_more w bs b e = rw e
 
-fills_more : (w bs : List ℕ) (b : ℕ) → is_whole w ≡ false → fills w (b ∷ bs) ≡ suc (fills (took w b) bs)
+pub fills_more : (w bs : List ℕ) (b : ℕ) → is_whole w ≡ false → fills w (b ∷ bs) ≡ suc (fills (took w b) bs)
 unfolding fills
 fills_more w bs b e = rw e (one-add _)
 
-filled_none : (w : List ℕ) → filled w [] ≡ w
+pub filled_none : (w : List ℕ) → filled w [] ≡ w
 unfolding filled
 filled_none w = refl
 
-fills_none : (w : List ℕ) → fills w [] ≡ 0
+pub fills_none : (w : List ℕ) → fills w [] ≡ 0
 unfolding fills
 fills_none w = refl
 
@@ -196,6 +209,12 @@ passed_settles w n e = ap (λ (f : Front). if_whole f (λ k. settled (drop k w))
 
 pub settled_passed : (w : List ℕ) (n : ℕ) → front_of w ≡ Whole n → Settled (passed w)
 settled_passed w n e = subst Settled (sym (passed_settles w n e)) (settled_settles (drop n w))
+
+pub few_passed : (w : List ℕ) (n : ℕ) → front_of w ≡ Whole n → length w ≤ 2055 → length (passed w) ≤ 2055
+few_passed w n e l =
+    let d = length-drop n w in
+    let k = length-drop (dropped (drop n w)) (drop n w) in
+    rw (passed_settles w n e) (omega arith)
 
 pub reads_passed : (w v : List ℕ) (n : ℕ) → front_of w ≡ Whole n → reads (w ++ v) ≡ onto (take n w ∷ []) (reads (passed w ++ v))
 reads_passed w v n e =

@@ -41,7 +41,7 @@ to_error : (p : Parts) (xs : List ℕ) → ReplyTo p (error p xs)
 to_error p xs = record { identifier = 0x42; content = xs; is = refl; names = inr refl }
 
 -- what is done is acknowledged: of the bytes xs behind the reply's identifier nothing is asked
-done : (c d : Core) (p : Parts) {r n k : Bool} → Allowed c p r n k → (xs : List ℕ)
+done : (c d : Core) (p : Parts) {g r n k : Bool} → Allowed c p g r n k → (xs : List ℕ)
     → acknowledged (moment_of c (serves p) (d, 0xFA ∷ p.address ∷ (p.identifier + 1) % 256 ∷ xs)) ≡ false → d ≡ c
 done c d p f xs e =
     absurd (both_ways _ e (acknowledges c d (serves p) p.address ((p.identifier + 1) % 256) xs false f.signs.reply))
@@ -67,8 +67,8 @@ module _ (w : World) (c : Core) where
       (λ n. absurd (both_ways _ (or_parts _ _ n).0 t.wake_up_lem)) (done c _ p f (drop 3 (reply p [] ++ wake_up)))
   way_replied (asking {p} q f) t =
       let xs : List ℕ = answer_of w.device_id c.settings q in one_reply p _ t.request (to_reply p xs) (done c c p f (drop 3 (reply p xs)))
-  way_replied (saving {p} ch s f _ _ _) t = one_reply p _ t.request (to_reply p (shown ch s)) (done c _ p f (drop 3 (reply p (shown ch s))))
-  way_replied (changing {p} ch s f _ _) t = one_reply p _ t.request (to_reply p (shown ch s)) (done c _ p f (drop 3 (reply p (shown ch s))))
+  way_replied (saving {p} ch s f _ _ _) t = one_reply p _ t.request (to_reply p (shown ch s)) (done c _ p f.allowed (drop 3 (reply p (shown ch s))))
+  way_replied (changing {p} ch s f _ _) t = one_reply p _ t.request (to_reply p (shown ch s)) (done c _ p f.allowed (drop 3 (reply p (shown ch s))))
   way_replied (sleeping _ _) t = tt
   way_replied (pausing _ _ _) t = tt
   way_replied (passing _ _ _) t = tt

@@ -11,7 +11,8 @@ use Rattle.session.specs.Laws.{Linked}
 use Rattle.session.proofs.Calls.{went}
 use Rattle.session.proofs.Flows.{ahead, flow}
 use Rattle.session.proofs.Happens.{Happens}
-use Rattle.session.proofs.Stories.{Inv, whats, Stepped, stepped, left_stays}
+use Rattle.session.proofs.Always.{Inv}
+use Rattle.session.proofs.CallsToMoments.{whats, Stepped, stepped, left_stays}
 
 -- ---- lists of moments, one behind the other
 

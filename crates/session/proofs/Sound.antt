@@ -1,19 +1,22 @@
 -- What every moment keeps: valid settings, the product, the bound of the tick number, and that the unit is powered.
 use Rattle.std.proofs.Common.{◌≡◌, ℕ, ◌^◌, ◌<◌, true, false, List, is_some, Some, None, Option, unwrap_or, refl, arith}
 use Rattle.mti.specs.declared.product.Product.{Product}
+use Rattle.xbus.specs.Parts.{Parts}
 use Rattle.settings.specs.Values.{Values}
 use Rattle.settings.specs.Valid.{valid}
 use Rattle.settings.specs.Factory.{factory_of}
 use Rattle.settings.specs.Image.{load_of}
 use Rattle.decision.specs.Asked.{Changing}
 use Rattle.config.specs.Changed.{changed_of}
-use Rattle.session.specs.Model.{World, Core}
+use Rattle.config.proofs.Exacts.{changed_said}
+use Rattle.session.specs.Model.{World, Core, Model}
 use Rattle.session.specs.Waking.{loaded, woken}
-use Rattle.session.specs.Serving.{Step}
-use Rattle.session.specs.Moments.{Happening, Moment}
+use Rattle.session.specs.Serving.{Step, served}
+use Rattle.session.specs.Calls.{powered}
+use Rattle.session.specs.Moments.{Happening, serves, Moment}
 use Rattle.session.specs.Counting.{is_power}
-use Rattle.session.proofs.Below.{changed_valid, changed_product, factory_valid, factory_product, loaded_valid, loaded_product}
-use Rattle.session.proofs.Ways.{Way, powering, silent, waking, refused, configuring, measured, resetting, asking, saving, changing, sleeping, pausing, passing, idle, sampling}
+use Rattle.session.proofs.Below.{changed_valid, factory_valid, factory_product, loaded_valid, loaded_product}
+use Rattle.session.proofs.Ways.{Way, does_way, powering, silent, waking, refused, configuring, measured, resetting, asking, saving, changing, sleeping, pausing, passing, idle, sampling}
 use Rattle.session.proofs.Happens.{Happens, happens_way}
 
 -- what a store gives is valid and of the product
@@ -43,7 +46,7 @@ same_fits : (s : Values) → valid s ≡ true → Fits s.product s
 same_fits s v = record { sound = v; product = refl }
 
 changed_fits : (s t : Values) (ch : Changing) → changed_of s ch ≡ Some t → Fits s.product t
-changed_fits s t ch e = record { sound = changed_valid s t ch e; product = changed_product s t ch e }
+changed_fits s t ch e = record { sound = changed_valid s t ch e; product = changed_said.product s t ch e }
 
 module _ {w : World} {c : Core} where
   way_fits : {h : Happening} {s : Step} → Way w c h s → valid c.settings ≡ true → Fits c.settings.product s.0.settings
@@ -81,23 +84,29 @@ module _ {w : World} {c : Core} where
   way_number (idle _) n = n
   way_number (sampling _) n = omega arith
 
-  way_lit : {h : Happening} {s : Step} → Way w c h s → (is_power h ≡ false → is_some c.state ≡ true) → is_some s.0.state ≡ true
+  way_powered : {h : Happening} {s : Step} → Way w c h s → (is_power h ≡ false → is_some c.state ≡ true) → is_some s.0.state ≡ true
   unfolding woken
-  way_lit powering l = refl
-  way_lit (silent _) l = l refl
-  way_lit (waking _) l = refl
-  way_lit (refused _ _ _ _ _) l = l refl
-  way_lit (configuring _) l = refl
-  way_lit (measured _) l = refl
-  way_lit (resetting _) l = refl
-  way_lit (asking _ _) l = l refl
-  way_lit (saving _ _ _ _ _ _) l = l refl
-  way_lit (changing _ _ _ _ _) l = l refl
-  way_lit (sleeping _ _) l = l refl
-  way_lit (pausing _ _ _) l = refl
-  way_lit (passing _ _ _) l = refl
-  way_lit (idle _) l = l refl
-  way_lit (sampling _) l = l refl
+  way_powered powering l = refl
+  way_powered (silent _) l = l refl
+  way_powered (waking _) l = refl
+  way_powered (refused _ _ _ _ _) l = l refl
+  way_powered (configuring _) l = refl
+  way_powered (measured _) l = refl
+  way_powered (resetting _) l = refl
+  way_powered (asking _ _) l = l refl
+  way_powered (saving _ _ _ _ _ _) l = l refl
+  way_powered (changing _ _ _ _ _) l = l refl
+  way_powered (sleeping _ _) l = l refl
+  way_powered (pausing _ _ _) l = refl
+  way_powered (passing _ _ _) l = refl
+  way_powered (idle _) l = l refl
+  way_powered (sampling _) l = l refl
+
+-- a powered unit stays powered when it serves a frame
+pub served_powered : (m : Model) (p : Parts) → powered m ≡ true → is_some (served m.device_id p m.core).0.state ≡ true
+served_powered m p on =
+    let w : World = record { product = m.core.settings.product; device_id = m.device_id; store = m.core.store; meaning = m.meaning } in
+    way_powered (does_way w m.core (serves p) (λ _. on)) (λ _. on)
 
 module _ (w : World) (m : Moment) (h : Happens w m) where
   pub happens_sound : valid m.after.settings ≡ true
@@ -109,5 +118,5 @@ module _ (w : World) (m : Moment) (h : Happens w m) where
   pub happens_number : m.before.counts.number < 2 ^ 32 → m.after.counts.number < 2 ^ 32
   happens_number = way_number (happens_way w m h)
 
-  pub happens_lit : is_some m.after.state ≡ true
-  happens_lit = way_lit (happens_way w m h) h.lit
+  pub happens_powered : is_some m.after.state ≡ true
+  happens_powered = way_powered (happens_way w m h) h.powered

@@ -41,7 +41,7 @@ power_call m n =
     cond (powered m) (refuses m refusal.AlreadyPowered)
     (cond (nat_lt n least_tray) (refuses m refusal.ShortTray) (writes m (woken m.core, wake_up)))
 
--- no frame is whole after so many bytes, or the frame with these parts is served
+-- a feed takes k bytes, and no frame is whole then; or the frame that is whole is served
 abbrev pub takes : ℕ → Model → Called Fed
 takes k m = (m, [], Ok (record { taken = k; written = 0; served = false }))
 
@@ -64,7 +64,7 @@ feed_call m bs n =
     (feed_by (fills m.waiting bs) (fill m bs) (first_parts (filled m.waiting bs))))
     (refuses m refusal.Dark)
 
--- the data of a message that is too long
+-- the message of a tick would have more than 2,048 data bytes
 abbrev pub too_long : Model → Bool
 too_long m = nat_lt 2048 (length (flat_map packet_bytes (packets_at m.meaning m.core)))
 

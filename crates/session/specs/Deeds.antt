@@ -27,7 +27,7 @@ done n on m = power_call m n
 done n (fed bs) m = written_of (feed_call m bs n)
 done n tick m = tick_call m n
 
--- a unit after deeds with the longest tray
+-- a unit after deeds, each with a tray of 2,055 bytes
 unfoldable pub behind : List Deed → Model → Model
 behind [] m = m
 behind (d ∷ ds) m = behind ds (done 2055 d m).0

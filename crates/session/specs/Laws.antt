@@ -17,6 +17,7 @@ use Rattle.session.specs.Filling.{is_whole}
 use Rattle.session.specs.Sessions.{Entry, Feed, Fair, next, Session, written, bytes_taken, tape, frames_served}
 use Rattle.session.specs.Moments.{Happening, powers, serves, ticks, Moment, frames_in, left_in, moments}
 use Rattle.session.specs.Counting.{acknowledged, is_power, is_served, is_request, is_reset, is_wake_up, is_passage, is_sample, is_stored, count, last_image}
+use Rattle.session.specs.Moves.{Moved, Ended}
 
 -- two sensors mean the same: at the channels of the table, the indices of their data and ticks below 2^32
 abbrev pub SameMeaning : Meaning → Meaning → Type 0
@@ -90,6 +91,8 @@ pub record Lawful (w : World) (es : List Entry) (k : Model) : Type 0 where
   -- in each, power, the frame or the tick did what is defined, and frames got their replies
   pub done : AllByRecursion (Done w) (moments w es)
   pub replied : AllByRecursion (λ m. (p : Parts) → m.what ≡ serves p → Replied p m) (moments w es)
+  -- and nothing else moved than what may
+  pub moved : AllByRecursion Moved (moments w es)
   -- Reset restores what was stored: right after an acknowledged Reset the settings are those right after the last
   -- stored change, or those that power loaded; and one of these is always there
   pub restores : (a b c : List Moment) (x r : Moment) → moments w es ≡ a ++ (x ∷ (b ++ (r ∷ c))) → keeps x ≡ true
@@ -104,6 +107,8 @@ pub record Lawful (w : World) (es : List Entry) (k : Model) : Type 0 where
   -- storing costs exactly one write, and nothing else alters the store
   pub cost : w.store.left ≡ k.core.store.left + count is_stored (moments w es)
   pub held : k.core.store.held ≡ last_image w.store.held (moments w es)
+  -- what is so at the end: valid settings, settled bytes, counts in range; without power the unit is as it was made
+  pub ended : Ended w k
 
 -- each session that leads to m, with the call e behind it, is a session that leads to k, and lawful
 abbrev pub Extends : Model → Entry → Model → Type 0

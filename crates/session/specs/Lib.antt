@@ -8,9 +8,11 @@ pub mod Ticking
 pub mod Sampled
 pub mod Filling
 pub mod Calls
+pub mod Refused
 pub mod Sessions
 pub mod Moments
 pub mod Counting
+pub mod Moves
 pub mod Laws
 pub mod Deeds
 pub mod Examples

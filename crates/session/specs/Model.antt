@@ -26,7 +26,7 @@ pub record Model : Type 0 where
   pub device_id : ℕ
   pub meaning : Meaning
   pub core : Core
-  -- the bytes held back
+  -- the bytes that wait
   pub waiting : List ℕ
 
 -- what a unit is made from
@@ -48,7 +48,7 @@ making w = record {
   waiting = [];
 }
 
--- what a session ends in: dark or the state, settings, the five counts, the store's meaning; and the bytes held back
+-- what a session ends in: dark or the state, settings, the five counts, the store's meaning; and the bytes that wait
 pub record EndState : Type 0 where
   pub core : Core
   pub waiting : List ℕ

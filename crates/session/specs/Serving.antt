@@ -96,6 +96,6 @@ abbrev pub answered : ℕ → Parts → Option State → Core → Step
 answered id p None c = (c, [])
 answered id p (Some s) c = performed_by id p (decided s c.settings.product p.identifier p.content) c
 
--- a frame with another address is served by silence
+-- a frame with another address gets no reply
 unfoldable pub served : ℕ → Parts → Core → Step
 served id p c = cond (addressed p) (answered id p c.state c) (c, [])

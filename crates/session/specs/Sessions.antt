@@ -72,18 +72,18 @@ frames_served (e ∷ es) = served_in e + frames_served es
 -- the tape: the accepted power, the bytes taken and the accepted ticks, in order
 
 pub data Event : Type 0 where
-  On : Event
+  Powered : Event
   Byte : ℕ → Event
-  Beat : Event
+  Ticked : Event
 
 abbrev pub if_accepted : {A : Type 0} → Event → Result A Refusal → List Event
 if_accepted v (Ok a) = v ∷ []
 if_accepted v (Err e) = []
 
 abbrev pub events : Entry → List Event
-events (Power n o a) = if_accepted On a
+events (Power n o a) = if_accepted Powered a
 events (Feed bs n o a) = map Byte (taken_by bs a)
-events (Tick n o a) = if_accepted Beat a
+events (Tick n o a) = if_accepted Ticked a
 
 unfoldable pub tape : List Entry → List Event
 tape [] = []

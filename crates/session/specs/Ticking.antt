@@ -45,6 +45,10 @@ ticked is n = record {
   seconds = cond ((n.phase + 1) % 2000 == 0) ((n.seconds + 1) % 2 ^ 32) n.seconds;
 }
 
+-- a tick in Measurement with these packets: it counts, and their message is sent
+abbrev pub sampled : List Item → Core → Step
+sampled is c = (with_counts c (ticked is c.counts), frame_so_far is)
+
 -- the packets of a tick: in Measurement alone
 abbrev pub packets_by : Meaning → Option State → Core → List Item
 packets_by m None c = []
@@ -59,7 +63,7 @@ abbrev pub tick_by : ℕ → List Item → Option State → Core → Step
 tick_by id is None c = (c, [])
 tick_by id is (Some WakeUp) c = wake_tick id c
 tick_by id is (Some Config) c = (c, [])
-tick_by id is (Some Measurement) c = (with_counts c (ticked is c.counts), frame_so_far is)
+tick_by id is (Some Measurement) c = sampled is c
 
 unfoldable pub tick : ℕ → Meaning → Core → Step
 tick id m c = tick_by id (packets_at m c) c.state c

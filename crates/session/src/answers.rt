@@ -1,8 +1,9 @@
 // What the calls of a unit answer.
 ghost use Rattle.std.specs.Prelude.{◌≡◌};
 ghost use Rattle.session.specs.Answers.{number_of};
+ghost use Rattle.session.specs.Refused.{RefusedSaid};
 
-// Why a call is refused: by its embedding program's doing, and everything stays.
+// Why a call is refused. A refused call changes nothing.
 #[derive(Clone, Copy, PartialEq, Debug)]
 pub enum Refusal {
     // the unit is not powered
@@ -17,8 +18,11 @@ pub enum Refusal {
 }
 
 impl Refusal {
+    // Also says which call is refused by which number, and in which order.
+    #[tactic(auto, using(crate::proofs::Refused::refused_said))]
     pub fn number(&self) -> u8
-        ensures { result ≡ number_of self.now }
+        ensures value { result ≡ number_of self.now }
+        ensures said { RefusedSaid }
     {
         *self as u8
     }

@@ -60,45 +60,45 @@ moment_frames_lem : (w : World) (m : Moment) → Happens w m
     → Frames m.wrote (one_if (is_request m) + one_if (is_wake_up m) + one_if (is_passage m) + one_if (is_sample w.meaning m))
 moment_frames_lem w m h = let f = happens_frames w m h in record { list = f.0; each = f.1; bytes = f.2; many = f.3 }
 
-pub tale_frames : (w : World) (ms : List Moment) → AllByRecursion (Happens w) ms → Frames (wrote_in ms) (moment_frames w.meaning ms)
+pub moments_frames : (w : World) (ms : List Moment) → AllByRecursion (Happens w) ms → Frames (wrote_in ms) (moment_frames w.meaning ms)
 unfolding count
-tale_frames w [] a = record { list = []; each = tt; bytes = refl; many = refl }
-tale_frames w (m ∷ ms) (h, a) =
+moments_frames w [] a = record { list = []; each = tt; bytes = refl; many = refl }
+moments_frames w (m ∷ ms) (h, a) =
     subst (λ (n : ℕ). Frames (wrote_in (m ∷ ms)) n) (omega arith)
-    (frames_append m.wrote (wrote_in ms) _ _ (moment_frames_lem w m h) (tale_frames w ms a))
+    (frames_append m.wrote (wrote_in ms) _ _ (moment_frames_lem w m h) (moments_frames w ms a))
 
 -- ---- storing costs exactly one write
 
-pub tale_cost : (w : World) (ms : List Moment) (c d : Core) → AllByRecursion (Happens w) ms → Linked c ms d → c.store.left ≡ d.store.left + count is_stored ms
+pub moments_cost : (w : World) (ms : List Moment) (c d : Core) → AllByRecursion (Happens w) ms → Linked c ms d → c.store.left ≡ d.store.left + count is_stored ms
 unfolding count
-tale_cost w [] c d a e = ap (λ (x : Core). x.store.left) e ∙ omega arith
-tale_cost w (m ∷ ms) c d (h, a) (b, l) =
+moments_cost w [] c d a e = ap (λ (x : Core). x.store.left) e ∙ omega arith
+moments_cost w (m ∷ ms) c d (h, a) (b, l) =
     let x = happens_left w m h in
-    let y = tale_cost w ms m.after d a l in
+    let y = moments_cost w ms m.after d a l in
     let z : m.before.store.left ≡ c.store.left = ap (λ (x : Core). x.store.left) b in
     omega arith
 
-pub tale_held : (w : World) (ms : List Moment) (c d : Core) → AllByRecursion (Happens w) ms → Linked c ms d → d.store.held ≡ last_image c.store.held ms
+pub moments_held : (w : World) (ms : List Moment) (c d : Core) → AllByRecursion (Happens w) ms → Linked c ms d → d.store.held ≡ last_image c.store.held ms
 unfolding last_image
-tale_held w [] c d a e = ap (λ (x : Core). x.store.held) (sym e)
-tale_held w (m ∷ ms) c d (h, a) (b, l) =
-    tale_held w ms m.after d a l
+moments_held w [] c d a e = ap (λ (x : Core). x.store.held) (sym e)
+moments_held w (m ∷ ms) c d (h, a) (b, l) =
+    moments_held w ms m.after d a l
     ∙ ap (λ (x : Option (List ℕ)). last_image x ms)
     (happens_held w m h ∙ ap (λ (x : Core). cond (is_stored m) (Some (image_of m.after.settings)) x.store.held) b)
 
 -- ---- Reset restores what was stored
 
 -- moments that neither load nor store leave what a Reset would load
-tale_stays : (w : World) (ms : List Moment) (c d : Core) → AllByRecursion (Happens w) ms → Linked c ms d → AllByRecursion (λ y. keeps y ≡ false) ms
+moments_stays : (w : World) (ms : List Moment) (c d : Core) → AllByRecursion (Happens w) ms → Linked c ms d → AllByRecursion (λ y. keeps y ≡ false) ms
     → stored_settings d ≡ stored_settings c
-tale_stays w [] c d a e n = ap stored_settings (sym e)
-tale_stays w (m ∷ ms) c d (h, a) (b, l) (f, n) =
-    tale_stays w ms m.after d a l n ∙ happens_stays w m h f ∙ ap stored_settings b
+moments_stays w [] c d a e n = ap stored_settings (sym e)
+moments_stays w (m ∷ ms) c d (h, a) (b, l) (f, n) =
+    moments_stays w ms m.after d a l n ∙ happens_stays w m h f ∙ ap stored_settings b
 
-pub tale_restores : (w : World) (a b c : List Moment) (x r : Moment) (k d : Core) → AllByRecursion (Happens w) (a ++ (x ∷ (b ++ (r ∷ c))))
+pub moments_restores : (w : World) (a b c : List Moment) (x r : Moment) (k d : Core) → AllByRecursion (Happens w) (a ++ (x ∷ (b ++ (r ∷ c))))
     → Linked k (a ++ (x ∷ (b ++ (r ∷ c)))) d → keeps x ≡ true → AllByRecursion (λ y. keeps y ≡ false) b → is_reset r ≡ true
     → r.after.settings ≡ x.after.settings
-tale_restores w a b c x r k d h l y n z =
+moments_restores w a b c x r k d h l y n z =
     let hx = all_behind (Happens w) a (x ∷ (b ++ (r ∷ c))) h in
     let hb = hx.1 in
     let hr = (all_behind (Happens w) b (r ∷ c) hb).0 in
@@ -106,7 +106,7 @@ tale_restores w a b c x r k d h l y n z =
     let lb = linked_parts b (r ∷ c) x.after d lx.2.1 in
     happens_resets w r hr z
     ∙ ap stored_settings lb.2.0
-    ∙ tale_stays w b x.after lb.0 (all_before (Happens w) b (r ∷ c) hb) lb.1 n
+    ∙ moments_stays w b x.after lb.0 (all_before (Happens w) b (r ∷ c) hb) lb.1 n
     ∙ happens_keeps w x hx.0 y
 
 -- a list splits at the last moment that loads or stores, if there is one
@@ -125,7 +125,7 @@ last_kept (m ∷ ms) =
 dark_powers : (w : World) (m : Moment) → Happens w m → m.before.state ≡ None → is_power m.what ≡ true
 dark_powers w m h e =
     ⊎_elim (λ (t : is_power m.what ≡ true). t)
-    (λ (t : is_power m.what ≡ false). absurd (true≢false (sym (h.lit t) ∙ ap is_some e)))
+    (λ (t : is_power m.what ≡ false). absurd (true≢false (sym (h.powered t) ∙ ap is_some e)))
     (cases_Bool (is_power m.what))
 
 power_no_reset : (m : Moment) → is_power m.what ≡ true → is_reset m ≡ false
@@ -139,11 +139,11 @@ power_no_reset m e = by m.what (acknowledged m) e
 power_keeps : (m : Moment) → is_power m.what ≡ true → keeps m ≡ true
 power_keeps m e = ap (λ (b : Bool). b || is_stored m) e
 
-pub tale_restorable : (w : World) (a c : List Moment) (r : Moment) (k d : Core) → AllByRecursion (Happens w) (a ++ (r ∷ c)) → Linked k (a ++ (r ∷ c)) d
+pub moments_restorable : (w : World) (a c : List Moment) (r : Moment) (k d : Core) → AllByRecursion (Happens w) (a ++ (r ∷ c)) → Linked k (a ++ (r ∷ c)) d
     → k.state ≡ None → is_reset r ≡ true → LastKept a
-tale_restorable w [] c r k d h l e z =
+moments_restorable w [] c r k d h l e z =
     let p = dark_powers w r h.0 (ap (λ (x : Core). x.state) l.0 ∙ e) in
     absurd (false≢true (sym (power_no_reset r p) ∙ z))
-tale_restorable w (m ∷ a) c r k d h l e z =
+moments_restorable w (m ∷ a) c r k d h l e z =
     let p = dark_powers w m h.0 (ap (λ (x : Core). x.state) l.0 ∙ e) in
     ⊎_elim (λ q. q) (λ n. absurd (true≢false (sym (power_keeps m p) ∙ n.0))) (last_kept (m ∷ a))

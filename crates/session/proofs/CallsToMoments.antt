@@ -1,50 +1,29 @@
 -- From calls to moments: each fair call keeps what a unit always is, and is the moments that reading and its answer tell.
-use Rattle.std.proofs.Common.{◌≡◌, ℕ, ◌+◌, ◌^◌, ◌<◌, true, false, ltb, List, [], ◌∷◌, ◌++◌, map, length, take, drop, Some, None, Option, sym, refl, ap, ◌∙◌, subst, ap₂, arith}
+use Rattle.std.proofs.Common.{◌≡◌, ℕ, ◌+◌, true, false, ltb, List, [], ◌∷◌, ◌++◌, map, length, take, drop, is_some, Some, None, Option, sym, refl, ap, ◌∙◌, subst, ap₂, arith}
 use Rattle.std.specs.List.{flat_map, AllByRecursion}
 use Rattle.std.proofs.lemmas.List.{append-nil}
-use Rattle.std.proofs.lemmas.Bool.{true≢false}
+use Rattle.std.proofs.lemmas.Bool.{true≢false, false≢true}
 use Rattle.xbus.specs.declared.front.Front.TheVariants.{Whole}
 use Rattle.xbus.specs.Front.{front_of}
 use Rattle.stream.specs.Waiting.{passed}
 use Rattle.mtdata2.specs.Packets.{packet_bytes}
-use Rattle.settings.specs.Valid.{valid}
-use Rattle.session.specs.Model.{Core, Meaning, Model, World, making}
+use Rattle.decision.specs.declared.states.State.{State}
+use Rattle.session.specs.Model.{Meaning, Model, World, making}
 use Rattle.session.specs.Sending.{wake_up}
 use Rattle.session.specs.Waking.{woken}
 use Rattle.session.specs.Serving.{Step, served}
 use Rattle.session.specs.Ticking.{packets_at, tick}
 use Rattle.session.specs.Filling.{is_whole, fills, filled}
 use Rattle.session.specs.Calls.{powered, fill, too_long}
-use Rattle.session.specs.Sessions.{Event, On, Byte, Beat}
-use Rattle.session.specs.Moments.{Happening, powers, serves, ticks, Moment, frames_in, left_in, first_served, behind_first, moment_by}
+use Rattle.session.specs.Sessions.{Event, Powered, Byte, Ticked}
+use Rattle.session.specs.Moments.{Happening, powers, serves, ticks, frames_in, left_in, first_served, behind_first, moment_by}
 use Rattle.session.specs.Counting.{is_served, count}
 use Rattle.session.specs.Laws.{Linked}
-use Rattle.session.proofs.Below.{factory_valid}
-use Rattle.session.proofs.Readings.{Read, reads, onto, Settled, settled_none, settled_filled, settled_passed, reads_filled, reads_passed}
-use Rattle.session.proofs.Calls.{Went, refused, took, answered, woke, beat, front_parts, serving}
-use Rattle.session.proofs.Flows.{ahead, flow, flow_bytes, flow_reads, flow_on, flow_beat, filled_reads, passed_reads}
+use Rattle.session.proofs.Readings.{Read, reads, onto, few_filled, settled_passed, few_passed, reads_filled, reads_passed}
+use Rattle.session.proofs.Calls.{Went, refused, took, answered, woke, ticking, front_parts, serving}
+use Rattle.session.proofs.Flows.{ahead, flow, flow_bytes, flow_reads, flow_power, flow_tick, filled_reads, passed_reads}
 use Rattle.session.proofs.Happens.{Happens}
-use Rattle.session.proofs.Sound.{happens_sound, happens_number, happens_lit}
-
--- what a unit made from w always is
-pub record Inv (w : World) (m : Model) : Type 0 where
-  pub device_id : m.device_id ≡ w.device_id
-  pub meaning : m.meaning ≡ w.meaning
-  pub sound : valid m.core.settings ≡ true
-  pub number : m.core.counts.number < 2 ^ 32
-  pub settled : Settled m.waiting
-  pub dark : powered m ≡ false → m.waiting ≡ []
-
-pub inv_making : (w : World) → Inv w (making w)
-unfolding making
-inv_making w = record {
-  device_id = refl;
-  meaning = refl;
-  sound = factory_valid w.product;
-  number = omega arith;
-  settled = settled_none;
-  dark = λ _. refl;
-}
+use Rattle.session.proofs.Always.{Inv, moment, inv_filled, inv_after}
 
 abbrev pub whats : Option Happening → List Happening
 whats None = []
@@ -62,22 +41,11 @@ pub record Stepped (w : World) (m k : Model) (o : List ℕ) (ev : List Event) (s
   pub wrote : flat_map (λ x. x.wrote) (moment_by h m.core o k.core) ≡ o
   pub served : count is_served (moment_by h m.core o k.core) ≡ s
 
-abbrev moment : Core → Happening → Step → Moment
-moment c h s = record { before = c; what = h; wrote = s.1; after = s.0 }
+no_state : (o : Option State) → is_some o ≡ false → o ≡ None
+no_state None e = refl
+no_state (Some s) e = absurd (true≢false e)
 
 module _ (w : World) (m : Model) (i : Inv w m) where
-  -- the core behind a moment keeps what a unit always is
-  inv_after : (h : Happening) (s : Step) (v : List ℕ) → Happens w (moment m.core h s) → Settled v
-      → Inv w (record { device_id = m.device_id; meaning = m.meaning; core = s.0; waiting = v })
-  inv_after h s v x r = record {
-    device_id = i.device_id;
-    meaning = i.meaning;
-    sound = happens_sound w (moment m.core h s) x;
-    number = happens_number w (moment m.core h s) x i.number;
-    settled = r;
-    dark = λ d. absurd (true≢false (sym (happens_lit w (moment m.core h s) x) ∙ d));
-  }
-
   step_refused : (fs : List (List ℕ)) → Stepped w m m [] [] 0 None fs fs fs
   unfolding count
   step_refused fs = record {
@@ -105,14 +73,7 @@ module _ (w : World) (m : Model) (i : Inv w m) where
     step_took d =
         let e : here ≡ frames_in (filled m.waiting bs ++ more) = ap (λ (r : Read). r.0) taken_reads in
         record {
-          inv = record {
-            device_id = i.device_id;
-            meaning = i.meaning;
-            sound = i.sound;
-            number = i.number;
-            settled = settled_filled bs m.waiting i.settled;
-            dark = λ f. absurd (true≢false (sym d ∙ f));
-          };
+          inv = inv_filled w m i bs d;
           unserved = e;
           passes = e;
           many = ap length e ∙ omega arith;
@@ -138,7 +99,9 @@ module _ (w : World) (m : Model) (i : Inv w m) where
       answered_happens = record {
         done = ap (λ (id : ℕ). served id (front_parts (filled m.waiting bs) k) m.core) i.device_id;
         sound = i.sound;
-        lit = λ _. d;
+        dark = λ e. absurd (false≢true e);
+        powered = λ _. d;
+        early = i.early;
         short = λ e. let z : ◌≡◌ {A = ℕ} 0 1 = cc in absurd (omega arith);
       }
 
@@ -151,7 +114,8 @@ module _ (w : World) (m : Model) (i : Inv w m) where
           let P : List (List ℕ) → Type 0 =
           λ fs. Stepped w m n (serving m (filled m.waiting bs) k).1 (map Byte (take (fills m.waiting bs) bs)) 1 (first_served fs) (behind_first fs) fs (frames_in (behind ++ more)) in
           subst P (sym e) (record {
-            inv = inv_after (serves (front_parts (filled m.waiting bs) k)) (serving m (filled m.waiting bs) k) behind answered_happens (settled_passed (filled m.waiting bs) k f);
+            inv = inv_after w m i (serves (front_parts (filled m.waiting bs) k)) (serving m (filled m.waiting bs) k) behind answered_happens
+                (settled_passed (filled m.waiting bs) k f) (few_passed (filled m.waiting bs) k f (few_filled bs m.waiting i.settled i.few));
             unserved = refl;
             passes = refl;
             many = omega arith;
@@ -169,21 +133,24 @@ module _ (w : World) (m : Model) (i : Inv w m) where
       woke_happens = record {
         done = refl;
         sound = i.sound;
-        lit = λ e. absurd (true≢false e);
+        dark = λ _. no_state m.core.state d;
+        powered = λ e. absurd (true≢false e);
+        early = i.early;
         short = λ e. let z : ◌≡◌ {A = ℕ} 0 1 = cc in absurd (omega arith);
       }
 
       quiet_dark : is_whole m.waiting ≡ false
-      quiet_dark = ap is_whole (i.dark d)
+      unfolding making
+      quiet_dark = ap (λ (x : Model). is_whole x.waiting) (i.dark d)
 
-      step_woke : Stepped w m (record { device_id = m.device_id; meaning = m.meaning; core = woken m.core; waiting = m.waiting }) wake_up (On ∷ []) 0 (Some powers) fs fs fs
+      step_woke : Stepped w m (record { device_id = m.device_id; meaning = m.meaning; core = woken m.core; waiting = m.waiting }) wake_up (Powered ∷ []) 0 (Some powers) fs fs fs
       unfolding count
       step_woke = record {
-        inv = inv_after powers (woken m.core, wake_up) m.waiting woke_happens i.settled;
+        inv = inv_after w m i powers (woken m.core, wake_up) m.waiting woke_happens i.settled i.few;
         unserved = refl;
         passes = refl;
         many = omega arith;
-        flows = λ t. flow_on m.waiting t quiet_dark i.settled;
+        flows = λ t. flow_power m.waiting t quiet_dark i.settled;
         each = (woke_happens, tt);
         linked = (refl, refl);
         wrote = append-nil wake_up;
@@ -191,28 +158,30 @@ module _ (w : World) (m : Model) (i : Inv w m) where
       }
 
     module _ (d : powered m ≡ true) (q : is_whole m.waiting ≡ false) (s : too_long m ≡ false) where
-      abbrev beaten : Step
-      beaten = tick m.device_id m.meaning m.core
+      abbrev behind_tick : Step
+      behind_tick = tick m.device_id m.meaning m.core
 
-      beat_happens : Happens w (moment m.core ticks beaten)
-      beat_happens = record {
+      tick_happens : Happens w (moment m.core ticks behind_tick)
+      tick_happens = record {
         done = ap₂ (λ (id : ℕ) (f : Meaning). tick id f m.core) i.device_id i.meaning;
         sound = i.sound;
-        lit = λ _. d;
+        dark = λ e. absurd (false≢true e);
+        powered = λ _. d;
+        early = i.early;
         short = λ _. subst (λ (f : Meaning). ltb 2048 (length (flat_map packet_bytes (packets_at f m.core))) ≡ false) i.meaning s;
       }
 
-      step_beat : Stepped w m (record { device_id = m.device_id; meaning = m.meaning; core = beaten.0; waiting = m.waiting }) beaten.1 (Beat ∷ []) 0 (Some ticks) fs fs fs
+      step_tick : Stepped w m (record { device_id = m.device_id; meaning = m.meaning; core = behind_tick.0; waiting = m.waiting }) behind_tick.1 (Ticked ∷ []) 0 (Some ticks) fs fs fs
       unfolding count
-      step_beat = record {
-        inv = inv_after ticks beaten m.waiting beat_happens i.settled;
+      step_tick = record {
+        inv = inv_after w m i ticks behind_tick m.waiting tick_happens i.settled i.few;
         unserved = refl;
         passes = refl;
         many = omega arith;
-        flows = λ t. flow_beat m.waiting t q i.settled;
-        each = (beat_happens, tt);
+        flows = λ t. flow_tick m.waiting t q i.settled;
+        each = (tick_happens, tt);
         linked = (refl, refl);
-        wrote = append-nil beaten.1;
+        wrote = append-nil behind_tick.1;
         served = refl;
       }
 
@@ -224,7 +193,7 @@ stepped w m i refused more = step_refused w m i (frames_in (m.waiting ++ more))
 stepped w m i (took bs d q) more = step_took w m i bs more d
 stepped w m i (answered bs k d f) more = step_answered w m i bs more k d f
 stepped w m i (woke d) more = step_woke w m i (frames_in (m.waiting ++ more)) d
-stepped w m i (beat d q s) more = step_beat w m i (frames_in (m.waiting ++ more)) d q s
+stepped w m i (ticking d q s) more = step_tick w m i (frames_in (m.waiting ++ more)) d q s
 
 -- and what reading leaves stays
 pub left_stays : (m : Model) {k : Model} {o : List ℕ} {ev : List Event} {s : ℕ} {tk : List ℕ} {h : List (List ℕ) → Option Happening} {u : List (List ℕ) → List (List ℕ)}
@@ -234,4 +203,4 @@ left_stays m (took bs d q) more = ap (λ (r : Read). r.1) (sym (reads_filled bs 
 left_stays m (answered bs k d f) more =
     ap (λ (r : Read). r.1) (sym (reads_filled bs m.waiting more) ∙ reads_passed (filled m.waiting bs) more k f)
 left_stays m (woke d) more = refl
-left_stays m (beat d q s) more = refl
+left_stays m (ticking d q s) more = refl
