@@ -2,6 +2,5 @@ pub mod Lengths
 pub mod Fed
 pub mod Continuing
 pub mod Running
-pub mod Rooms
 pub mod Plays
 pub mod Tapes

@@ -45,7 +45,7 @@ module _ {m j k : Model} {bs rest : List ℕ} {n t : ℕ} {before mid after : Li
     abbrev e : Entry
     e = Feed rest n o.wrote (Ok f)
 
-    says : Accepted j rest n k o.wrote f
+    says : Accepted j rest n k f
     says = fed_accepted j rest n k o.wrote f o.call
 
     one_more : length (r.entries ++ (e ∷ [])) ≡ frames_served (r.entries ++ (e ∷ [])) + cond f.served 0 1
@@ -86,8 +86,8 @@ module _ {m j k : Model} {bs rest : List ℕ} {n t : ℕ} {before mid after : Li
     pub running_fewer : (xs : List ℕ) → xs ≡ drop f.taken rest → f.served ≡ true → length xs + length k.waiting < length rest + length j.waiting
     running_fewer xs e s = subst (λ (x : List ℕ). length x + length k.waiting < length rest + length j.waiting) (sym e) (says.fewer s)
 
-    pub running_lit : (powered k ≡ true) × (2055 ≤ t)
-    running_lit = (says.lit, omega (arith, says.long))
+    pub running_ready : (powered k ≡ true) × (2055 ≤ t)
+    running_ready = (says.on, omega (arith, says.long))
 
     pub running_ends : f.served ≡ false → FedAll m k bs n before after was is
     running_ends s =

@@ -2,7 +2,7 @@
 use Rattle.std.specs.Prelude.{◌≡◌, false, List, [], ◌∷◌, ◌++◌, map}
 use Rattle.session.specs.Model.{World, end_of}
 use Rattle.session.specs.Filling.{is_whole}
-use Rattle.session.specs.Sessions.{Event, On, Byte, Beat, if_accepted, taken_by}
+use Rattle.session.specs.Sessions.{Event, Powered, Byte, Ticked, if_accepted, taken_by}
 use Rattle.session.specs.Laws.{Alike}
 use Rattle.replay.specs.declared.calls.Call.{Call}
 use Rattle.replay.specs.declared.calls.Answer.{Answer}
@@ -12,7 +12,7 @@ use Rattle.replay.specs.Replayed.{Outcome, Replayed}
 
 -- what a call with this answer lets reach the unit
 abbrev pub reached : Asked → Answer → List Event
-reached (power n) (answer.Power a) = if_accepted On a
+reached (power n) (answer.Power a) = if_accepted Powered a
 reached (power n) (answer.Feed a) = []
 reached (power n) (answer.Tick a) = []
 reached (feed bs n) (answer.Power a) = []
@@ -20,7 +20,7 @@ reached (feed bs n) (answer.Feed a) = map Byte (taken_by bs a)
 reached (feed bs n) (answer.Tick a) = []
 reached (tick n) (answer.Power a) = []
 reached (tick n) (answer.Feed a) = []
-reached (tick n) (answer.Tick a) = if_accepted Beat a
+reached (tick n) (answer.Tick a) = if_accepted Ticked a
 
 -- the tape of calls with these answers
 

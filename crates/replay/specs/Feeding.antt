@@ -16,7 +16,7 @@ abbrev pub Continues : Model → List Entry → Model → Type 0
 Continues m ds k =
     (w : World) (es : List Entry) → Session (making w) es m → Session (making w) (es ++ ds) k × Lawful w (es ++ ds) k
 
--- some calls lead from m to k
+-- some calls lead from m to k, and every session stays lawful
 abbrev pub Lawfully : Model → Model → Type 0
 Lawfully m k = (ds : List Entry) × Continues m ds k
 

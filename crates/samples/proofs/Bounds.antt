@@ -94,7 +94,7 @@ offered_in p [] a = tt
 offered_in p (e ∷ es) a =
     let o = a.0.output in
     let r = a.0.known.row in
-    let at : In o.channel.identifier (identifiers channels) = in_by channels o.channel r.0 r.1 (r.2 o.channel) in
+    let at : In o.channel.identifier (identifiers channels) = in_by channels o.channel r.0 r.1 r.2 in
     (subst (λ k. In k (identifiers channels)) (sym (plain_known e.identifier o a.0.known)) at, offered_in p es a.1)
 
 unlisted_apart : (k : ℕ) (es : List Entry) → unlisted k es ≡ true → AllByRecursion (λ j. j ≢ k) (keys es)

@@ -15,7 +15,7 @@ use Rattle.session.specs.declared.counts.Counts.{Counts}
 use Rattle.session.specs.Model.{Meaning}
 use Rattle.session.specs.Sampling.{whole_bytes, measured, data_of}
 use Rattle.session.proofs.Packed.{size_at}
-use Rattle.session.proofs.Sampled.{low_bytes}
+use Rattle.session.proofs.OutputData.{low_bytes}
 use Rattle.samples.proofs.Readings.{SendsWhole}
 
 -- a whole number in its lowest bytes
@@ -31,7 +31,7 @@ whole_measured readings p kind w v len out k e size is =
 
 -- the status word's channel
 pub sends_status : SendsWhole 0xE020
-sends_status = (row 0xE020 (Whole 4) 2000 All, (4, (((18, omega arith, λ d. refl), refl), refl)))
+sends_status = (row 0xE020 (Whole 4) 2000 All, (4, (((18, omega arith, refl), refl), refl)))
 
 module _ (f : Meaning) (n : Counts) (o : Output) (r : Row o.channel) (len : ℕ) (out : List ℕ) (size : len ≡ size_of o) where
   -- so many bytes of a number, under an identifier whose data are as long

@@ -68,20 +68,6 @@ reals_more f p k (suc n) xs v h e =
     more_by p (encoded p v) (f k) (reals_from f p (k + 1) n) (reals_from f p (k + 1) (suc n)) xs h
     (λ ys r. reals_more f p (k + 1) n ys v r (ap f (sym next) ∙ e))
 
-none_by : (p : Precision) (a : Option ℤ) → reals_by p a None ≡ None
-none_by p None = refl
-none_by p (Some v) = refl
-
--- an absent reading leaves none
-pub reals_none : (f : ℕ → Option ℤ) (p : Precision) (k n j : ℕ) → j < n → f (k + j) ≡ None → reals_from f p k n ≡ None
-reals_none f p k zero j h e = absurd (omega arith)
-reals_none f p k (suc n) zero h e =
-    let at : f k ≡ None = ap f (sym (add-zero k)) ∙ e in
-    rw at refl
-reals_none f p k (suc n) (suc j) h e =
-    let next : k + suc j ≡ k + 1 + j = omega arith in
-    ap (reals_by p (f k)) (reals_none f p (k + 1) n j (omega arith) (ap f (sym next) ∙ e)) ∙ none_by p (f k)
-
 -- ---- a real number that is written
 
 pub real_within : (m : Meaning) (c t k n : ℕ) (ch : Channel) (v : ℤ) → Ranged m → Bearer c ch → ch.kind ≡ Real n → k < n → t < 2 ^ 32

@@ -1,5 +1,5 @@
 -- A draft that takes the packets of valid entries one after the other: each entry's rate, and room for its packet.
-use Rattle.std.proofs.Common.{◌≡◌, ℕ, zero, suc, ◌+◌, ◌<◌, ◌≤◌, true, List, [], ◌∷◌, ◌++◌, length, take, drop, get_or, sym, ap, ◌∙◌, arith}
+use Rattle.std.proofs.Common.{◌≡◌, ℕ, zero, suc, ◌+◌, ◌*◌, ◌<◌, ◌≤◌, true, List, [], ◌∷◌, ◌++◌, length, take, drop, get_or, sym, ap, ◌∙◌, mul_assoc, arith}
 use Rattle.std.specs.List.{flat_map, AllByRecursion}
 use Rattle.std.proofs.lemmas.List.{length-append, take-append-drop, take_more}
 use Rattle.std.proofs.lemmas.List.Concat.{flat_map-append}
@@ -11,9 +11,10 @@ use Rattle.draft.specs.Composed.{Holding}
 use Rattle.settings.specs.declared.record.Entry.{Entry}
 use Rattle.settings.specs.declared.checked.Settings.{Settings}
 use Rattle.settings.specs.Valid.{valid_entries}
+use Rattle.settings.specs.Rates.{Divides}
 use Rattle.settings.specs.Rules.{Offered}
 use Rattle.settings.specs.View.{values_of}
-use Rattle.settings.proofs.Divisors.{divides_mod, divisor_pos, mod_le}
+use Rattle.settings.proofs.Divisors.{divides_from}
 use Rattle.settings.proofs.Judged.{valid_passed}
 use Rattle.settings.proofs.Worded.{entries_each}
 use Rattle.session.specs.declared.counts.Counts.{Counts}
@@ -26,17 +27,15 @@ use Rattle.samples.proofs.Adds.{packets_append}
 pub settings_entries : (s : Settings) (es : List Entry) → es ≡ (values_of s).entries → valid_entries s.product es ≡ true
 settings_entries s es e = ap (valid_entries s.product) e ∙ (valid_passed (values_of s) s.ok).entries
 
--- a frequency is from 1 to 2000 Hz
+-- a second's ticks are a multiple of the frequency
 abbrev pub Rated : Entry → Type 0
-Rated e = (0 < e.frequency) × (e.frequency ≤ 2000)
+Rated e = Divides e.frequency 2000
 
 offered_rated : (p : Product) (e : Entry) → Offered p e → Rated e
 offered_rated p e w =
     let c = w.output.channel in
-    let r = orderly_table.regular c w.known.row in
-    let hz = mod_le c.max_hz e.frequency r.some_hz (divides_mod _ _ w.divides) in
-    let most = mod_le 2000 c.max_hz (omega arith) r.divides in
-    (divisor_pos c.max_hz e.frequency r.some_hz w.divides, omega arith)
+    let d : Divides c.max_hz 2000 = divides_from 2000 c.max_hz (orderly_table.regular c w.known.row).divides in
+    (d.0 * w.divides.0, mul_assoc d.0 w.divides.0 e.frequency ∙ ap (λ n. d.0 * n) w.divides.1 ∙ d.1)
 
 rated_at : (p : Product) (es : List Entry) → AllByRecursion (Offered p) es → (i : ℕ) (d : Entry) → i < length es → Rated (get_or es i d)
 rated_at p [] a i d h = absurd (omega arith)
@@ -49,7 +48,7 @@ module _ (p : Product) (es : List Entry) (v : valid_entries p es ≡ true) where
 
   -- with the packets of some of the entries there is room for one more
   pub room_for : (f : Meaning) (n : Counts) (i : ℕ) (tray : List ℕ) (d : Draft) → Holding (packets f n (take i es)) tray d
-      → d.lot.size.len + 75 ≤ 2048
+      → d.extent.size.len + 75 ≤ 2048
   room_for f n i tray d h =
       let first : List Item = packets f n (take i es) in
       let rest : List Item = packets f n (drop i es) in

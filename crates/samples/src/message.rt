@@ -3,6 +3,7 @@ ghost use Rattle.std.specs.Prelude.{◌≡◌, ℕ, ◌+◌, ◌<◌, ◌≤◌,
 ghost use Rattle.std.specs.List.{flat_map};
 ghost use Rattle.mtdata2.specs.Packets.{Item, packet_bytes};
 ghost use Rattle.draft.specs.Composed.{frame_so_far, Holding};
+ghost use Rattle.settings.specs.Rates.{Divides};
 ghost use Rattle.settings.specs.View.{values_of};
 ghost use Rattle.session.specs.Sampling.{due, packets};
 
@@ -19,10 +20,11 @@ const MOST: usize = 72;
 
 // Whether an entry is sent in the tick of this phase. A second has 2000 ticks.
 fn due(phase: u16, entry: Entry) -> bool
-    requires { (0 < entry.frequency) × (entry.frequency ≤ 2000) }
+    requires { Divides entry.frequency 2000 }
     ensures { result ≡ due phase entry }
 {
-    phase % (2000 / entry.frequency) == 0
+    // the interval, 2000 / frequency, divides the phase
+    u32::from(phase) * u32::from(entry.frequency) % 2000 == 0
 }
 
 // Adds the packet of an entry, if it is due and its data are there.
@@ -33,10 +35,10 @@ fn add_packet<T: Sensor>(
     counts: &Counts,
     entry: Entry,
 )
-    requires rate { (0 < entry.frequency) × (entry.frequency ≤ 2000) }
-    requires room { (draft.old.lot.start ≡ 0) × (draft.old.lot.size.len + 75 ≤ 2048) }
+    requires rate { Divides entry.frequency 2000 }
+    requires room { (draft.old.extent.start ≡ 0) × (draft.old.extent.size.len + 75 ≤ 2048) }
     ensures adds { (items : List Item) → Holding items tray.old draft.old → Holding (items ++ packets (T.Sensor.meaning sensor.old) counts.now (entry ∷ [])) tray.new draft.new }
-    ensures start { draft.new.lot.start ≡ draft.old.lot.start }
+    ensures start { draft.new.extent.start ≡ draft.old.extent.start }
     ensures lends { draft.new.mark.ghost_name ≡ draft.old.mark.ghost_name }
     ensures stays { T.Sensor.meaning sensor.new ≡ T.Sensor.meaning sensor.old }
 {

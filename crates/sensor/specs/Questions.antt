@@ -1,4 +1,4 @@
--- What a sensor is asked for. Assumes nothing.
+-- What a sensor is asked for.
 use Rattle.std.specs.Prelude.{◌≡◌, ℕ, ◌<◌, Bool, cond, ◌||◌, ◌≢◌, Some, None, Option, ◌==◌, nat_lt}
 use Rattle.mti.specs.declared.channel.Channel.{Channel}
 use Rattle.mti.specs.declared.channel.Kind.{Kind}

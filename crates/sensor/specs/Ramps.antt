@@ -1,4 +1,4 @@
--- The ramp. Assumes nothing.
+-- The ramp.
 use Rattle.std.specs.Prelude.{ℕ, ◌+◌, ◌*◌, ◌%◌, ◌^◌, ℤ, pos, ◌-ℤ◌, ◌*ℤ◌, Option}
 use Rattle.std.specs.Option.{option_map}
 use Rattle.mti.specs.declared.channel.Kind.{Kind}

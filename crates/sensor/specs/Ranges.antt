@@ -1,4 +1,4 @@
--- The ranges of a channel's numbers, which every sensor keeps to. Assumes nothing.
+-- The ranges of a channel's numbers, which every sensor keeps to.
 use Rattle.std.specs.Prelude.{◌≡◌, ℕ, ◌-◌, ◌^◌, ◌<◌, ℤ, pos, ◌≤ℤ◌, ◌<ℤ◌, Some, Option}
 use Rattle.std.specs.Int.{int_max, int_min}
 use Rattle.mti.specs.declared.channel.Channel.{Channel}

@@ -1,4 +1,4 @@
--- Recorded rows, and what a sensor means that replays them. Assumes nothing.
+-- Recorded rows, and what a sensor means that replays them.
 use Rattle.std.specs.Prelude.{◌≡◌, ℕ, ◌≤◌, Bool, cond, ◌&&◌, ◌⊎◌, List, ◌∷◌, ◌++◌, ℤ, pos, Some, None, fold, Option, ◌==◌, nat_le, slice_index_or}
 use Rattle.std.specs.Option.{option_map, option_flatten}
 use Rattle.std.specs.List.{AllByRecursion}

@@ -1,5 +1,5 @@
 -- Bytes are taken one by one until a whole frame waits.
-use Rattle.std.proofs.Common.{◌≡◌, ℕ, ◌+◌, ◌<◌, true, false, List, [], ◌∷◌, length, drop, get_or, Ok, Err, is_err, sym, refl, ap, ◌∙◌, arith}
+use Rattle.std.proofs.Common.{◌≡◌, ℕ, ◌+◌, ◌<◌, true, false, List, length, drop, get_or, Ok, Err, is_err, sym, refl, ap, ◌∙◌, arith}
 use Rattle.std.proofs.lemmas.List.{drop_more}
 use Rattle.std.proofs.Math.ListN.{drop_of_length-le}
 use Rattle.xbus.specs.declared.front.Front.{Front}
@@ -8,7 +8,7 @@ use Rattle.xbus.specs.Front.{front_of}
 use Rattle.stream.specs.Waiting.{if_whole, taking, took}
 use Rattle.stream.specs.declared.waiting.FrameWaits.{FrameWaits}
 use Rattle.session.specs.Filling.{is_whole, fills, filled}
-use Rattle.session.proofs.Readings.{is_whole_lem}
+use Rattle.session.proofs.Readings.{is_whole_lem, fills_whole, fills_more, fills_none, filled_whole, filled_more, filled_none}
 
 refused_front : (f : Front) → is_err {E = FrameWaits} (if_whole f (λ _. Err (record {})) (Ok (tt {0}))) ≡ if_whole f (λ _. true) false
 refused_front (Whole n) = refl
@@ -22,31 +22,6 @@ refused_whole w = refused_front (front_of w)
 pub took_whole : (w : List ℕ) (b : ℕ) → is_whole w ≡ true → took w b ≡ w
 took_whole w b e = let q = is_whole_lem w e in rw q.1 refl
 
-module _ (w : List ℕ) (b : ℕ) (bs : List ℕ) where
-  fills_none : is_whole w ≡ true → fills w (b ∷ bs) ≡ 0
-  unfolding fills
-  fills_none e = rw e refl
-
-  fills_one : is_whole w ≡ false → fills w (b ∷ bs) ≡ 1 + fills (took w b) bs
-  unfolding fills
-  fills_one e = rw e refl
-
-  filled_none : is_whole w ≡ true → filled w (b ∷ bs) ≡ w
-  unfolding filled
-  filled_none e = rw e refl
-
-  filled_one : is_whole w ≡ false → filled w (b ∷ bs) ≡ filled (took w b) bs
-  unfolding filled
-  filled_one e = rw e refl
-
-fills_end : (w : List ℕ) → fills w [] ≡ 0
-unfolding fills
-fills_end w = refl
-
-filled_end : (w : List ℕ) → filled w [] ≡ w
-unfolding filled
-filled_end w = refl
-
 -- i of the bytes bs were taken since v waited, and w waits now
 pub record Taken (v bs : List ℕ) (i : ℕ) (w : List ℕ) : Type 0 where
   pub count : fills v bs ≡ i + fills w (drop i bs)
@@ -59,23 +34,21 @@ module _ (v bs : List ℕ) (i : ℕ) (w : List ℕ) (so_far : Taken v bs i w) wh
   pub taken_one : i < length bs → is_whole w ≡ false → Taken v bs (i + 1) (took w (get_or bs i 0))
   taken_one l e =
       let s = drop_more bs i 0 l in
-      let n = ap (fills w) s ∙ fills_one w (get_or bs i 0) (drop (i + 1) bs) e in
+      let n = ap (fills w) s ∙ fills_more w (drop (i + 1) bs) (get_or bs i 0) e in
       let c : fills v bs ≡ i + 1 + fills (took w (get_or bs i 0)) (drop (i + 1) bs) = omega (arith, so_far.count, n) in
       record {
         count = c;
-        after = so_far.after ∙ ap (filled w) s ∙ filled_one w (get_or bs i 0) (drop (i + 1) bs) e;
+        after = so_far.after ∙ ap (filled w) s ∙ filled_more w (drop (i + 1) bs) (get_or bs i 0) e;
       }
 
-  pub taken_stop : i < length bs → is_whole w ≡ true → (i ≡ fills v bs) × (took w (get_or bs i 0) ≡ filled v bs)
-  taken_stop l e =
-      let s = drop_more bs i 0 l in
-      let c = so_far.count ∙ ap (λ x. i + fills w x) s ∙ ap (λ n. i + n) (fills_none w (get_or bs i 0) (drop (i + 1) bs) e) in
-      let a = so_far.after ∙ ap (filled w) s ∙ filled_none w (get_or bs i 0) (drop (i + 1) bs) e in
-      (omega (arith, c), took_whole w (get_or bs i 0) e ∙ sym a)
+  pub taken_stop : is_whole w ≡ true → (i ≡ fills v bs) × (took w (get_or bs i 0) ≡ filled v bs)
+  taken_stop e =
+      let c = so_far.count ∙ ap (λ n. i + n) (fills_whole w (drop i bs) e) in
+      (omega (arith, c), took_whole w (get_or bs i 0) e ∙ sym (so_far.after ∙ filled_whole w (drop i bs) e))
 
   pub taken_all : i ≡ length bs → (length bs ≡ fills v bs) × (w ≡ filled v bs)
   taken_all e =
       let s = drop_of_length-le bs (omega (arith, e)) in
-      let c = so_far.count ∙ ap (λ x. i + fills w x) s ∙ ap (λ n. i + n) (fills_end w) in
-      let a = so_far.after ∙ ap (filled w) s ∙ filled_end w in
+      let c = so_far.count ∙ ap (λ x. i + fills w x) s ∙ ap (λ n. i + n) (fills_none w) in
+      let a = so_far.after ∙ ap (filled w) s ∙ filled_none w in
       (omega (arith, c, e), sym a)

@@ -18,9 +18,9 @@ some_seen None = refl
 some_seen (Some f) = refl
 
 module _ (m : Model) (n : ℕ) where
-  pub power_lit : powered m ≡ true → power_call m n ≡ refuses m refusal.AlreadyPowered
+  pub power_again : powered m ≡ true → power_call m n ≡ refuses m refusal.AlreadyPowered
   unfolding power_call
-  power_lit d = rw d refl
+  power_again d = rw d refl
 
   pub power_short : powered m ≡ false → n < 2055 → power_call m n ≡ refuses m refusal.ShortTray
   unfolding power_call

@@ -1,4 +1,4 @@
--- The model of a unit over any store and sensor.
+-- What the core of a unit means over any store, and the bytes lent to its store.
 use Rattle.std.specs.Prelude.{ℕ, cond, List, nat_lt}
 use Rattle.store.specs.declared.port.Store.{Ghosts}
 use Rattle.settings.specs.View.{values_of}
@@ -10,6 +10,7 @@ use Rattle.unit.specs.declared.cores.Core.{Core}
 abbrev pub kept_of : {S : Type 0} → Ghosts S → S → Kept
 kept_of g s = record { held = g.held s; left = g.left s }
 
+-- a core by the values of its settings and what its store means
 abbrev pub core_of : {S : Type 0} → Ghosts S → Core S → Modelled
 core_of g c = record { state = c.state; settings = values_of c.settings; counts = c.counts; store = kept_of g c.store }
 

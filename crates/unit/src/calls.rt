@@ -4,7 +4,7 @@ ghost use Rattle.session.specs.Calls.{power_call, feed_call, tick_call};
 ghost use Rattle.session.specs.Sessions.{Power, Feed, Tick};
 ghost use Rattle.session.specs.Laws.{Extends};
 ghost use Rattle.unit.specs.Of.{core_of, memory_by};
-ghost use Rattle.unit.specs.Units.{model_of, wrote, fed_wrote};
+ghost use Rattle.unit.specs.Units.{model_of, wrote, fed_wrote, InTray};
 
 use crate::device::Device;
 use crate::filling::fill;
@@ -21,6 +21,7 @@ impl<S: Store, T: Sensor> Device<S, T> {
         ensures bytes { take (wrote result) tray.new ≡ (power_call (model_of S.Store T.Sensor self.old) (length tray.old)).1 }
         ensures answer { result ≡ (power_call (model_of S.Store T.Sensor self.old) (length tray.old)).2 }
         ensures refused { IfErr result (λ _. (self.new ≡ self.old) × (tray.new ≡ tray.old)) }
+        ensures room { InTray (wrote result) tray.old tray.new }
         ensures memory { S.Store.memory self.new.core.store ≡ S.Store.memory self.old.core.store }
         ensures history { Extends (model_of S.Store T.Sensor self.old) (Power (length tray.old) (take (wrote result) tray.new) result) (model_of S.Store T.Sensor self.new) }
     {
@@ -38,6 +39,7 @@ impl<S: Store, T: Sensor> Device<S, T> {
         ensures bytes { take (fed_wrote result) tray.new ≡ (feed_call (model_of S.Store T.Sensor self.old) bytes.now (length tray.old)).1 }
         ensures answer { result ≡ (feed_call (model_of S.Store T.Sensor self.old) bytes.now (length tray.old)).2 }
         ensures refused { IfErr result (λ _. (self.new ≡ self.old) × (tray.new ≡ tray.old)) }
+        ensures room { InTray (fed_wrote result) tray.old tray.new }
         ensures memory { S.Store.memory self.new.core.store ≡ memory_by S.Store (core_of S.Store self.old.core) (core_of S.Store self.new.core) self.old.core.store }
         ensures history { Extends (model_of S.Store T.Sensor self.old) (Feed bytes.now (length tray.old) (take (fed_wrote result) tray.new) result) (model_of S.Store T.Sensor self.new) }
     {
@@ -68,6 +70,7 @@ impl<S: Store, T: Sensor> Device<S, T> {
         ensures bytes { take (wrote result) tray.new ≡ (tick_call (model_of S.Store T.Sensor self.old) (length tray.old)).1 }
         ensures answer { result ≡ (tick_call (model_of S.Store T.Sensor self.old) (length tray.old)).2 }
         ensures refused { IfErr result (λ _. (self.new ≡ self.old) × (tray.new ≡ tray.old)) }
+        ensures room { InTray (wrote result) tray.old tray.new }
         ensures memory { S.Store.memory self.new.core.store ≡ S.Store.memory self.old.core.store }
         ensures history { Extends (model_of S.Store T.Sensor self.old) (Tick (length tray.old) (take (wrote result) tray.new) result) (model_of S.Store T.Sensor self.new) }
     {

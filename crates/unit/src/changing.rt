@@ -10,7 +10,7 @@ ghost use Rattle.unit.specs.Steps.{Sent, Stepped};
 
 use crate::cores::Core;
 use crate::sending::{Tray, refuse, reply};
-use config::{answer, change};
+use config::{MOST_ANSWER, answer, change};
 use decision::{Change, Question};
 use settings::Settings;
 use store::Store;
@@ -25,9 +25,6 @@ const WRONG_BAUD: u8 = 32;
 const WRONG_VALUE: u8 = 33;
 
 const NOT_SAVED: u8 = 40;
-
-// The most data bytes of an answer.
-pub(crate) const MOST_ANSWER: usize = 128;
 
 fn is_storing(settings: &Settings) -> bool
     ensures { result ≡ storing (values_of settings.now) }

@@ -8,10 +8,9 @@ ghost use Rattle.session.specs.Serving.{addressed, measuring, performed, served}
 ghost use Rattle.unit.specs.Of.{core_of, memory_by};
 ghost use Rattle.unit.specs.Steps.{Sent, Stepped};
 
-use crate::changing::MOST_ANSWER;
 use crate::cores::Core;
 use crate::sending::{CONFIGURATION, Tray, WAKE_UP, refuse, reply, send};
-use config::{answer, configuration};
+use config::{MOST_ANSWER, answer, configuration};
 use decision::{Action, State, decide};
 use session::Counts;
 use store::Store;
@@ -92,7 +91,7 @@ impl<S: Store> Core<S> {
         }
     }
 
-    // Serves a frame, and says how many bytes it wrote. One with another address is served by silence.
+    // Serves a frame, and says how many bytes it wrote. One with another address gets no reply.
     #[tactic(auto, unfolding(session::specs::Serving::served))]
     pub(crate) fn serve(&mut self, device_id: u32, frame: Frame<'_>, tray: &mut Tray) -> usize
         ensures does { Stepped (served device_id (seen frame.entry) (core_of S.Store self.old)) (core_of S.Store self.new) result tray.new }

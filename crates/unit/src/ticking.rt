@@ -1,10 +1,11 @@
 // A tick, half a millisecond.
-ghost use Rattle.std.specs.Prelude.{◌≡◌};
+ghost use Rattle.std.specs.Prelude.{◌≡◌, List, length, nat_lt};
+ghost use Rattle.mtdata2.specs.Packets.{Item};
 ghost use Rattle.settings.specs.View.{values_of};
-ghost use Rattle.session.specs.Ticking.{configures, wake_tick, tick};
+ghost use Rattle.session.specs.Ticking.{configures, wake_tick, ticked, sampled, tick};
 ghost use Rattle.session.specs.Sampling.{packets};
 ghost use Rattle.unit.specs.Of.{core_of};
-ghost use Rattle.unit.specs.Steps.{Stepped, counted, sampled};
+ghost use Rattle.unit.specs.Steps.{Stepped};
 
 use crate::cores::Core;
 use crate::sending::Tray;
@@ -30,9 +31,9 @@ fn configures(settings: &Settings) -> bool
     settings.flags() & CONFIGURES == CONFIGURES
 }
 
-// The counts after a tick in Measurement, in which a message was sent or not.
+// The counts after a tick in Measurement, in which a message was sent or not: it is sent if there are packets.
 fn ticked(counts: Counts, sent: bool) -> Counts
-    ensures { result ≡ counted sent counts }
+    ensures { (items : List Item) → sent ≡ nat_lt 0 (length items) → result ≡ ticked items counts }
 {
     let phase = (u32::from(counts.phase) + 1) % u32::from(SECOND);
     Counts {

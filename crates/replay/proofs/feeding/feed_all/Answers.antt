@@ -4,7 +4,7 @@ use Rattle.std.proofs.lemmas.Bool.{not-true, not-false}
 use Rattle.std.proofs.lemmas.List.{take_rest}
 use Rattle.unit.specs.Units.{model_of}
 use Rattle.replay.proofs.Continuing.{lawfully_more}
-use Rattle.replay.proofs.Running.{running_none, running_on, running_fewer, running_lit, running_ends, refused_first, err_same}
+use Rattle.replay.proofs.Running.{running_none, running_on, running_fewer, running_ready, running_ends, refused_first, err_same}
 use Rattle.replay.proofs.feeding.feed_all.Goals as goal
 
 pub loop-fed-init : goal.loop-fed-init
@@ -39,7 +39,7 @@ loop-fed-smaller g c =
 
 pub loop-fed-preserved : goal.loop-fed-preserved
 loop-fed-preserved g c =
-    let l = running_lit c.loop-fed.invariant.running c.loop-fed.auto.tray c.in_ok-fed.ensures.fed in
+    let l = running_ready c.loop-fed.invariant.running c.loop-fed.auto.tray c.in_ok-fed.ensures.fed in
     record {
       running = running_on c.loop-fed.invariant.running c.loop-fed.auto.tray c.in_ok-fed.ensures.fed _
           (take_rest c.loop-fed.rest.now c.in_ok-fed.fed.taken) (not-false c.in_ok-fed.fed.served c.if-not-fed.false);

@@ -1,9 +1,8 @@
 -- One call, by its kind.
 use Rattle.std.proofs.Common.{length, take, sym, refl, ap}
 use Rattle.session.specs.Sessions.{Power, Feed, Tick}
-use Rattle.unit.specs.Units.{model_of, wrote, fed_wrote}
+use Rattle.unit.specs.Units.{wrote, fed_wrote}
 use Rattle.replay.specs.Calls.{asked_with}
-use Rattle.replay.proofs.Rooms.{power_room, feed_room, tick_room}
 use Rattle.replay.proofs.playing.play.Goals as goal
 
 pub returns-in-Power-clause-step : goal.returns-in-Power-clause-step
@@ -15,11 +14,6 @@ returns-in-Power-clause-step g c = record {
   extends = c.power.ensures.history;
 }
 
-pub returns-in-Power-clause-room : goal.returns-in-Power-clause-room
-returns-in-Power-clause-room g c =
-    power_room (model_of g.S.Store g.T.Sensor c.args.device.now) (length c.args.tray.now) c.power.new.tray c.power.result
-    c.power.ensures.bytes c.power.ensures.answer
-
 pub returns-in-Feed-clause-step : goal.returns-in-Feed-clause-step
 returns-in-Feed-clause-step g c = record {
   entry = Feed c.in-Feed.bytes.now (length c.args.tray.now) (take (fed_wrote c.feed.result) c.feed.new.tray) c.feed.result;
@@ -29,11 +23,6 @@ returns-in-Feed-clause-step g c = record {
   extends = c.feed.ensures.history;
 }
 
-pub returns-in-Feed-clause-room : goal.returns-in-Feed-clause-room
-returns-in-Feed-clause-room g c =
-    feed_room (model_of g.S.Store g.T.Sensor c.args.device.now) (length c.args.tray.now) c.feed.new.tray c.in-Feed.bytes.now c.feed.result
-    c.feed.ensures.bytes c.feed.ensures.answer
-
 pub returns-in-Tick-clause-step : goal.returns-in-Tick-clause-step
 returns-in-Tick-clause-step g c = record {
   entry = Tick (length c.args.tray.now) (take (wrote c.tick.result) c.tick.new.tray) c.tick.result;
@@ -42,8 +31,3 @@ returns-in-Tick-clause-step g c = record {
   writes = refl;
   extends = c.tick.ensures.history;
 }
-
-pub returns-in-Tick-clause-room : goal.returns-in-Tick-clause-room
-returns-in-Tick-clause-room g c =
-    tick_room (model_of g.S.Store g.T.Sensor c.args.device.now) (length c.args.tray.now) c.tick.new.tray c.tick.result
-    c.tick.ensures.bytes c.tick.ensures.answer

@@ -1,8 +1,11 @@
 -- Each reading is in range and has room, and stands behind those before it.
-use Rattle.std.proofs.Common.{◌≡◌, ◌*◌, ◌<◌, ◌≤◌, ◌^◌, length, Some, None, sym, refl, ap, ◌∙◌, subst, zero-add, ℕ, w64, SFits, rules, arith}
+use Rattle.std.proofs.Common.{◌≡◌, ◌*◌, ◌<◌, ◌≤◌, ◌^◌, length, Some, None, sym, refl, ap, ◌∙◌, subst, zero-add, ℕ, List, w64, SFits, rules, arith}
 use Rattle.std.specs.Result.{IsOk}
+use Rattle.std.proofs.lemmas.List.{take_all}
 use Rattle.mti.specs.Precisions.{width_of}
-use Rattle.samples.proofs.Readings.{as_before, reals_none, real_within, real_put, real_step}
+use Rattle.session.specs.Sampling.{reals_from}
+use Rattle.session.proofs.OutputData.{reals_missing}
+use Rattle.samples.proofs.Readings.{as_before, real_within, real_put, real_step}
 use Rattle.samples.proofs.data.put_reals.Goals as goal
 
 pub returns-in_err-value-clause-is : goal.returns-in_err-value-clause-is
@@ -12,7 +15,7 @@ returns-in_err-value-clause-is g c =
     let absent : f k ≡ None =
     as_before (g.T.Sensor.meaning c.args.sensor.now) (g.T.Sensor.meaning c.loop-index.sensor) c.args.output.channel.identifier k c.args.tick None
     c.in_err-value.ensures.answer c.loop-index.invariant.stays in
-    rw c.from_residual.ensures (reals_none f c.args.output.precision 0 c.args.count k (search rules) (ap f (zero-add k) ∙ absent))
+    rw c.from_residual.ensures (reals_missing f c.args.output.precision 0 c.args.count k (search rules) (ap f (zero-add k) ∙ absent))
 
 pub unwrap-at-requires : goal.unwrap-at-requires
 unwrap-at-requires g c =
@@ -44,3 +47,14 @@ loop-index-preserved g c =
           inside w c.unwrap-at.ensures c.put_real.ensures.bytes;
       stays = c.in_ok-value.ensures.stays ∙ c.loop-index.invariant.stays;
     }
+
+pub returns-clause-is : goal.returns-clause-is
+returns-clause-is g c =
+    let f = λ (j : ℕ). g.T.Sensor.meaning c.args.sensor.now c.args.output.channel.identifier j c.args.tick in
+    let p = c.args.output.precision in
+    let out = c.loop-index.out in
+    let all : c.loop-index.index ≡ c.args.count = search rules in
+    let size : length out ≡ c.args.count * width_of p = search rules in
+    let end : c.loop-index.at ≡ length out = c.loop-index.invariant.at ∙ ap (λ (n : ℕ). n * width_of p) all ∙ sym size in
+    ap (reals_from f p 0) (sym all) ∙ c.loop-index.invariant.there
+    ∙ ap (λ (l : List ℕ). Some l) (take_all c.loop-index.at out (omega (arith, end)))

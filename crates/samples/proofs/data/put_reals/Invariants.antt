@@ -1,9 +1,9 @@
+-- The real numbers at the indices so far stand in front, and the sensor means the same.
 use Rattle.std.proofs.Common.{◌≡◌, ◌*◌, take, Some}
 use Rattle.mti.specs.Precisions.{width_of}
 use Rattle.session.specs.Sampling.{reals_from}
 use Rattle.samples.proofs.data.put_reals.Given as goal
 
--- the real numbers at the indices so far stand in front
 abbrev pub invariant-loop-index : goal.invariant-loop-index
 invariant-loop-index g l =
     record {

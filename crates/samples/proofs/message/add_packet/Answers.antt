@@ -36,3 +36,7 @@ returns-else-is_some-clause-adds g c =
     let none : is_some c.put_data.result ≡ false = search rules in
     let gone = not_filled _ c.put_data.result c.put_data.new.out c.put_data.ensures.is none in
     none_added _ c.args.tray.now c.args.draft.now (absent f c.args.counts.now c.args.entry c.in-Some.output c.in-Some.ensures.is gone)
+
+-- what is known of an entry's identifier is an output of a row of the table
+pub put_data-requires-clause-row : goal.put_data-requires-clause-row
+put_data-requires-clause-row g c = (c.known.ensures.exact.sound c.in-Some.output c.in-Some.is).row

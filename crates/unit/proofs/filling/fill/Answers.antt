@@ -23,7 +23,7 @@ pub returns-then-is_err : goal.returns-then-is_err
 returns-then-is_err c =
     let w : List ℕ = held c.loop-taken.waiting in
     let whole : is_whole w ≡ true = sym (refused_whole w) ∙ sym (ap is_err c.take_byte.ensures.value) ∙ sym c.is_err.ensures.value ∙ c.if-is_err.true in
-    let t = taken_stop (held c.args.waiting.now) c.args.bytes.now c.loop-taken.taken w c.loop-taken.invariant.taken c.loop-taken-test.true whole in
+    let t = taken_stop (held c.args.waiting.now) c.args.bytes.now c.loop-taken.taken w c.loop-taken.invariant.taken whole in
     record { count = t.0; after = c.take_byte.ensures.after ∙ t.1 }
 
 pub returns : goal.returns
