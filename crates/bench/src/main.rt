@@ -4,19 +4,13 @@
 mod bench;
 
 use bench::Bench;
-use commands::{Answers, LineError, Misread, answer_all, only_number};
+use commands::{Answers, LineError, Misread, answer_all, only_number32};
 use lines::{bytes_of, next_word};
 use std::process::ExitCode;
 use store::{Page, Store};
 
 // The bytes of a page of four slots.
 const PAGE: usize = 564;
-
-// How often a line says to tick.
-fn read_count(line: &[u8]) -> Result<u32, Misread> {
-    let number = only_number(line)?;
-    u32::try_from(number).map_err(|_| Misread::NotANumber)
-}
 
 impl<S: Store + Drop> Answers for Bench<S> {
     fn answer(&mut self, rt: &HostRuntime, line: &[u8]) -> Result<(), LineError> {
@@ -25,7 +19,7 @@ impl<S: Store + Drop> Answers for Bench<S> {
         };
         match command {
             b"b" => self.feed(rt, bytes_of(rt.alloc(), rest)?.as_slice())?,
-            b"t" => self.tick(rt, read_count(rest)?)?,
+            b"t" => self.tick(rt, only_number32(rest)?)?,
             _ => return Err(Misread::UnknownCommand.into()),
         }
         Ok(())

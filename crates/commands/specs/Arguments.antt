@@ -1,5 +1,5 @@
--- The words of a line, one after the other. Assumes nothing.
-use Rattle.std.specs.Prelude.{ℕ, ◌+◌, ◌^◌, List, Option}
+-- The words of a line, one after the other.
+use Rattle.std.specs.Prelude.{ℕ, ◌+◌, List, Option}
 use Rattle.std.specs.Option.{option_and_then, option_map_or}
 use Rattle.lines.specs.Decimals.{decimal_of}
 use Rattle.lines.specs.Words.{next_word}
@@ -16,7 +16,3 @@ behind_first line = option_map_or (λ q. q.1) (next_word line) line
 -- the number of at most so much that decimal digits stand for
 abbrev pub number_of : ℕ → List ℕ → Option ℕ
 number_of most word = below (most + 1) (decimal_of word)
-
--- the number below 2^32 that decimal digits stand for
-abbrev pub number32_of : List ℕ → Option ℕ
-number32_of word = below (2 ^ 32) (decimal_of word)

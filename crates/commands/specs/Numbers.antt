@@ -1,4 +1,4 @@
--- What words stand for. Assumes nothing.
+-- What words stand for.
 use Rattle.std.specs.Prelude.{ℕ, ◌+◌, ◌*◌, ◌^◌, cond, List, [], ◌∷◌, take, drop, Some, None, Option, ◌==◌, ℤ, pos, neg_ℤ, nat_lt}
 use Rattle.std.specs.Option.{option_map}
 use Rattle.lines.specs.Bytes.{byte_of}

@@ -1,11 +1,12 @@
 // The words behind the first one of a line.
-ghost use Rattle.std.specs.Prelude.{◌≡◌, Ok, Err, Some, MatchOption, IfOk};
+ghost use Rattle.std.specs.Prelude.{◌≡◌, Ok, Err, Some, MatchOption, MatchResult};
 ghost use Rattle.std.specs.Option.{ok_or, option_map, option_and_then};
 ghost use Rattle.lines.specs.Bytes.{byte_of, bytes_of};
 ghost use Rattle.lines.specs.Decimals.{decimal_of};
 ghost use Rattle.lines.specs.Words.{next_word, words_of};
 ghost use Rattle.commands.specs.Numbers.{only, identifier_of, device_id_of, integer_of};
-ghost use Rattle.commands.specs.Arguments.{first_by, behind_first, number_of, number32_of};
+ghost use Rattle.commands.specs.Faults.{Erring};
+ghost use Rattle.commands.specs.Arguments.{first_by, behind_first, number_of};
 ghost use Rattle.commands.specs.declared.fault.Misread.TheVariants.{NotANumber, NotAByte, NotAnIdentifier, TooManyWords};
 
 use crate::fault::{LineError, Misread};
@@ -20,6 +21,13 @@ pub fn only_number(line: &[u8]) -> Result<u64, Misread>
     only_word(line)
         .and_then(|word| decimal_of(word))
         .ok_or(Misread::NotANumber)
+}
+
+// The number below 2^32 that is the only word of a line.
+pub fn only_number32(line: &[u8]) -> Result<u32, Misread>
+    ensures { result ≡ ok_or (option_and_then (number_of 0xFFFF_FFFF) (only (words_of line.now))) NotANumber }
+{
+    u32::try_from(only_number(line)?).map_err(|_| Misread::NotANumber)
 }
 
 // The words of a line that are not read yet.
@@ -58,14 +66,10 @@ impl<'a> Arguments<'a> {
 
     // A number below 2^32.
     pub fn number32(&mut self) -> Result<u32, Misread>
-        ensures value { result ≡ ok_or (first_by number32_of self.old.rest.now) NotANumber }
+        ensures value { result ≡ ok_or (first_by (number_of 0xFFFF_FFFF) self.old.rest.now) NotANumber }
         ensures rest { self.new.rest.now ≡ behind_first self.old.rest.now }
     {
-        let number = self
-            .word()
-            .and_then(|word| decimal_of(word))
-            .ok_or(Misread::NotANumber)?;
-        u32::try_from(number).map_err(|_| Misread::NotANumber)
+        Ok(self.number(u64::from(u32::MAX))? as u32)
     }
 
     // A whole number with a sign or without.
@@ -107,7 +111,7 @@ impl<'a> Arguments<'a> {
 
     // The bytes that all other words stand for.
     pub fn bytes(self, heap: Global) -> Result<Vec<u8>, LineError>
-        ensures { IfOk result (λ bytes. bytes_of self.entry.rest.now ≡ Some bytes.items) }
+        ensures { MatchResult result (λ bytes. bytes_of self.entry.rest.now ≡ Some bytes.items) (λ error. Erring error self.entry.rest.now) }
     {
         Ok(bytes_of(heap, self.rest)?)
     }

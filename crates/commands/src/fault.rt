@@ -1,4 +1,6 @@
 // Why a line is not answered.
+ghost use Rattle.commands.specs.Faults.{Gives};
+
 use lines::LineFault;
 use std::alloc::{AllocError, AllocFailed};
 use std::fmt;
@@ -71,6 +73,8 @@ impl<T: Drop> From<AllocFailed<T>> for LineError {
 }
 
 impl From<LineFault> for LineError {
+    ghost from_gives = { Gives };
+
     fn from(fault: LineFault) -> LineError {
         match fault {
             LineFault::NotAByte => LineError::Misread(Misread::NotAByte),

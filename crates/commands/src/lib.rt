@@ -8,7 +8,7 @@ mod print;
 mod script;
 mod words;
 
-pub use arguments::{Arguments, only_number};
+pub use arguments::{Arguments, only_number, only_number32};
 pub use fault::{LineError, Misread};
 pub use hash::{Hash, next_number};
 pub use print::{print_bare_bytes, print_bytes};

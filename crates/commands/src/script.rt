@@ -2,7 +2,7 @@
 ghost use Rattle.std.specs.Prelude.{◌≡◌, ◌<◌, MatchOption};
 ghost use Rattle.std.specs.Option.{option_map};
 ghost use Rattle.lines.specs.Lines.{next_line};
-ghost use Rattle.commands.specs.Scripts.{rest_of, unread, first_line};
+ghost use Rattle.commands.specs.Scripts.{rest_of, unread, first_line, status_after};
 
 use crate::fault::LineError;
 use lines::next_line;
@@ -27,7 +27,8 @@ pub struct Script<'a> {
 
 impl<'a> Script<'a> {
     pub fn over(text: &'a [u8]) -> Script<'a>
-        ensures { rest_of result ≡ text.now }
+        ensures rest { rest_of result ≡ text.now }
+        ensures status { result.status ≡ ExitCode.SUCCESS }
     {
         Script {
             rest: text,
@@ -62,7 +63,9 @@ impl<'a> Script<'a> {
         rt: &HostRuntime,
         answered: Result<(), LineError>,
     ) -> anyhow::Result<()>
-        ensures { rest_of self.new ≡ rest_of self.old }
+        ensures rest { rest_of self.new ≡ rest_of self.old }
+        ensures number { self.new.number ≡ self.old.number }
+        ensures status { self.new.status ≡ status_after ExitCode.FAILURE answered self.old.status }
     {
         match answered {
             Ok(()) => Ok(()),
@@ -77,7 +80,9 @@ impl<'a> Script<'a> {
     }
 
     // Whether each line was understood.
-    pub fn status(self) -> ExitCode {
+    pub fn status(self) -> ExitCode
+        ensures { result ≡ self.entry.status }
+    {
         self.status
     }
 }

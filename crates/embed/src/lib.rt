@@ -1,7 +1,10 @@
 // A unit for programs in C: one export, which plays a script of calls over memory that the caller lends.
 #![tactic(auto)]
 
-ghost use Rattle.std.specs.Prelude.{◌≤◌, length, IfOk};
+ghost use Rattle.std.specs.Prelude.{◌≤◌, length, take, IfOk};
+ghost use Rattle.unit.specs.Units.{model_of, wrote};
+ghost use Rattle.embed.specs.Scripts.{call_of, calls_of};
+ghost use Rattle.embed.specs.Playing.{asked, memory_of, Called, CallsPlayed, world, ScriptPlayed};
 
 mod script;
 
@@ -31,11 +34,12 @@ fn call<S: Store, T: Sensor>(
     step: Step<'_>,
     tray: &mut [u8],
 ) -> Result<usize, Refusal>
-    ensures { IfOk result (λ n. n ≤ length tray.new) }
+    ensures called { Called S.Store.overwritten (model_of S.Store T.Sensor device.old) (model_of S.Store T.Sensor device.new) (asked (call_of step.entry) (length tray.old)) (take (wrote result) tray.new) result (memory_of S.Store device.old) (memory_of S.Store device.new) }
+    ensures room { IfOk result (λ n. n ≤ length tray.new) }
 {
     match step {
         Step::Power => device.power(tray),
-        Step::Feed(bytes) => Ok(device.feed(bytes, tray)?.written),
+        Step::Feed(bytes) => device.feed(bytes, tray).map(|fed| fed.written),
         Step::Tick => device.tick(tray),
     }
 }
@@ -46,7 +50,8 @@ fn play<S: Store, T: Sensor>(
     script: &[u8],
     out: &mut [u8],
 ) -> (usize, usize, Option<Refusal>)
-    ensures { result.1 ≤ length out.new }
+    ensures played { CallsPlayed S.Store.overwritten (model_of S.Store T.Sensor device.old) (model_of S.Store T.Sensor device.new) (calls_of script.now) (length out.old) (take result.1 out.new) result.0 result.2 (memory_of S.Store device.old) (memory_of S.Store device.new) }
+    ensures room { result.1 ≤ length out.new }
 {
     let mut calls = 0usize;
     let mut written = 0usize;
@@ -70,7 +75,8 @@ pub extern "C" fn tirgolpa_play(
     script: &[u8],
     out: &mut [u8],
 ) -> Played
-    ensures { result.written ≤ length out.new }
+    ensures played { ScriptPlayed (world device_id page.old) script.now (length out.old) (take result.written out.new) result }
+    ensures room { result.written ≤ length out.new }
 {
     let mut device = Device::new(Product::Mti3, device_id, Page::over(page), Ramp);
     let (calls, written, refusal) = play(&mut device, script, out);

@@ -1,5 +1,7 @@
 // The calls of a script.
-ghost use Rattle.std.specs.Prelude.{◌<◌, length, IfSome};
+ghost use Rattle.std.specs.Prelude.{◌≡◌, ◌<◌, length, IfSome};
+ghost use Rattle.std.specs.Option.{option_map};
+ghost use Rattle.embed.specs.Scripts.{first_call, seen};
 
 #[derive(Clone, Copy)]
 pub enum Step<'a> {
@@ -11,7 +13,8 @@ pub enum Step<'a> {
 // The first call of a script, and the calls behind it: 1 powers, 2 feeds the bytes behind two bytes with their number,
 // and 3 ticks. Anything else ends the script.
 pub fn next_step(script: &[u8]) -> Option<(Step<'_>, &[u8])>
-    ensures { IfSome result (λ q. length q.1.now < length script.now) }
+    ensures first { option_map seen result ≡ first_call script.now }
+    ensures shorter { IfSome result (λ q. length q.1.now < length script.now) }
 {
     match script {
         [1, rest @ ..] => Some((Step::Power, rest)),

@@ -1,33 +1,16 @@
 -- Decimal digits read one by one from the front.
-use Rattle.std.proofs.Common.{◌≡◌, ℕ, ◌+◌, ◌-◌, ◌*◌, ◌^◌, ◌<◌, ◌≤◌, Bool, true, false, cond, ◌&&◌, ltb, ◌⊎◌, List, [], ◌∷◌, length, get_or, drop, Some, None, decimal, sym, refl, ap, ◌∙◌, inl, inr, ⊎_elim, arith, rules}
+use Rattle.std.proofs.Common.{◌≡◌, ℕ, ◌+◌, ◌-◌, ◌*◌, ◌^◌, ◌<◌, ◌≤◌, true, false, ◌&&◌, ◌⊎◌, List, [], ◌∷◌, length, get_or, drop, Some, None, decimal, sym, refl, ap, ◌∙◌, inl, inr, ⊎_elim, arith, rules}
 use Rattle.std.specs.Char.{is_ascii_digit}
 use Rattle.std.specs.Str.{all_ascii_digits}
 use Rattle.std.proofs.lemmas.List.{at_drop_more}
-use Rattle.std.proofs.lemmas.Bool.{ltb-true, lt-ltb, le-ltb, and_right}
+use Rattle.std.proofs.lemmas.Bool.{lt-ltb, le-ltb, and_right}
 use Rattle.std.proofs.lemmas.Bool.Decides.{nat_tests}
 use Rattle.std.proofs.lemmas.Str.Parse.{IsNumeralModel, numerals_by_fold}
 use Rattle.std.proofs.lemmas.Fmt.{decimal_nonempty, digits_decimal, digits_value-decimal}
 use Rattle.lines.specs.Decimals.{value_after, with_digit, decimal_of, DecimalReadsBack}
 
-with_digit_some : (n c m : ℕ) → with_digit n c ≡ Some m → (is_ascii_digit c ≡ true) × (10 * n + (c - 48) ≡ m) × (m < 2 ^ 64)
-with_digit_some n c m e =
-    let d = by (is_ascii_digit c) (ltb (10 * n + (c - 48)) (2 ^ 64)) e in (d.0, d.2, omega (arith, d.2, ltb-true _ _ d.1))
-  where
-    by : (s t : Bool) → cond (s && t) (Some (10 * n + (c - 48))) None ≡ Some m → (s ≡ true) × (t ≡ true) × (10 * n + (c - 48) ≡ m)
-    by true true f = (refl, refl, cc)
-    by true false f = grind arith
-    by false t f = grind arith
-
 with_digit_none : (n c : ℕ) → with_digit n c ≡ None → (is_ascii_digit c ≡ false) ⊎ (2 ^ 64 ≤ 10 * n + (c - 48))
 with_digit_none n c e = grind (arith, nat_tests)
-
-pub digit_more : (word : List ℕ) (i n m : ℕ) → i < length word → with_digit n (get_or word i 0) ≡ Some m → (value_after m (drop (i + 1) word) ≡ value_after n (drop i word)) × (all_ascii_digits (drop (i + 1) word) ≡ all_ascii_digits (drop i word)) × (m < 2 ^ 64)
-digit_more word i n m h e =
-    let d = with_digit_some n (get_or word i 0) m e in (
-      ap (λ v. value_after v (drop (i + 1) word)) (sym d.1) ∙ sym (at_drop_more (value_after n) word i 0 h),
-      ap (λ t. t && all_ascii_digits (drop (i + 1) word)) (sym d.0) ∙ sym (at_drop_more all_ascii_digits word i 0 h),
-      d.2,
-    )
 
 value_ge : (n : ℕ) (cs : List ℕ) → n ≤ value_after n cs
 value_ge n [] = omega arith

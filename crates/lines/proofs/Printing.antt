@@ -1,8 +1,7 @@
 -- What is printed reads back.
-use Rattle.std.proofs.Common.{◌≡◌, ℕ, ◌+◌, ◌/◌, ◌%◌, ◌<◌, List, [], ◌∷◌, ◌++◌, map, length, get_or, take, Some, IsUtf8, sym, refl, ap, ◌∙◌, arith}
+use Rattle.std.proofs.Common.{◌≡◌, ℕ, ◌/◌, ◌%◌, ◌<◌, List, [], ◌∷◌, ◌++◌, map, get_or, Some, IsUtf8, refl, ap, ◌∙◌, arith}
 use Rattle.std.specs.List.{AllByRecursion}
 use Rattle.std.proofs.ByRecursion.{IsAscii-from_all}
-use Rattle.std.proofs.lemmas.List.{flat_map_more, take_more}
 use Rattle.std.proofs.lemmas.Str.{IsUtf8-from_ascii}
 use Rattle.std.proofs.lemmas.Bool.{ne_eqb}
 use Rattle.std.proofs.lemmas.Bool.Decides.{nat_tests}
@@ -71,8 +70,3 @@ digits_ascii ds b h e = rw e (digit_ascii (b / 16) (omega arith), digit_ascii (b
 
 pub three_text : (x y z : ℕ) → x < 128 → y < 128 → z < 128 → IsUtf8 (x ∷ y ∷ z ∷ [])
 three_text x y z p q r = IsUtf8-from_ascii (x ∷ y ∷ z ∷ []) (IsAscii-from_all (x ∷ y ∷ z ∷ []) (p, (q, (r, tt))))
-
-pub printed_more : (held bytes holds next : List ℕ) (i : ℕ) → i < length bytes → holds ≡ held ++ printed (take i bytes) → next ≡ holds ++ (32 ∷ digits_of (get_or bytes i 0)) → next ≡ held ++ printed (take (i + 1) bytes)
-printed_more held bytes holds next i h p q =
-    q ∙ ap (λ l. l ++ (32 ∷ digits_of (get_or bytes i 0))) p ∙ flat_map_more (λ b. 32 ∷ digits_of b) held (take i bytes) (get_or bytes i 0)
-    ∙ ap (λ l. held ++ printed l) (sym (take_more bytes i 0 h))

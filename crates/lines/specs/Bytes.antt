@@ -1,4 +1,4 @@
--- Bytes as pairs of hexadecimal digits. Assumes nothing.
+-- Bytes as pairs of hexadecimal digits.
 use Rattle.std.specs.Prelude.{◌≡◌, ℕ, ◌+◌, ◌-◌, ◌*◌, ◌/◌, ◌%◌, ◌<◌, cond, ◌&&◌, List, [], ◌∷◌, ◌++◌, length, Some, None, Option, ◌≢◌, nat_le, nat_lt}
 use Rattle.std.specs.List.{flat_map, AllByRecursion}
 use Rattle.lines.specs.Words.{next_word, words_of}

@@ -1,4 +1,4 @@
--- A list cut at a given byte. Assumes nothing.
+-- A list cut at a given byte.
 use Rattle.std.specs.Prelude.{ℕ, cond, List, [], ◌∷◌, ◌==◌}
 use Rattle.std.specs.Borrow.{Bor}
 

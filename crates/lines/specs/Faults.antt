@@ -1,4 +1,4 @@
--- Why the bytes of a line cannot be read. Assumes nothing.
+-- Why the bytes of a line cannot be read.
 use Rattle.std.specs.Prelude.{◌≡◌, ℕ, Bool, true, false, List, [], ◌∷◌, is_some, None, codes}
 use Rattle.lines.specs.declared.words.LineFault.{LineFault}
 use Rattle.lines.specs.declared.words.LineFault.TheVariants.{NotAByte, Memory}

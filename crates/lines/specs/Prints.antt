@@ -1,4 +1,4 @@
--- What a text holds if memory ran out while bytes were printed to it. Assumes nothing.
+-- What a text holds if memory ran out while bytes were printed to it.
 use Rattle.std.specs.Prelude.{◌≡◌, ℕ, ◌<◌, List, ◌++◌, length, take}
 use Rattle.lines.specs.Bytes.{printed}
 

@@ -1,4 +1,4 @@
--- The words of a line. Assumes nothing.
+-- The words of a line.
 use Rattle.std.specs.Prelude.{◌≡◌, ℕ, ◌<◌, Bool, true, false, cond, List, [], ◌∷◌, ◌++◌, length, replicate, Some, None, filter, Option, MatchOption, ◌==◌, ◌≢◌, slice_index}
 use Rattle.std.specs.Borrow.{Bor}
 use Rattle.std.specs.List.{AllByRecursion}

@@ -1,6 +1,5 @@
 // Readings in four precisions: one as text, many as a hash.
-use commands::{Hash, Misread, integer_of, next_number, only_number, only_word};
-use lines::{decimal_of, next_word};
+use commands::{Arguments, Hash, Misread, integer_of, next_number, only_word};
 use mti::Precision;
 use numbers::{LOWEST, put_real};
 use std::fmt::Write;
@@ -23,12 +22,10 @@ pub fn read_number(line: &[u8]) -> Result<i64, Misread> {
 
 // The two numbers of a line: a seed, and how many readings.
 pub fn read_seed_and_count(line: &[u8]) -> Result<(u64, u64), Misread> {
-    let (first, rest) = next_word(line).ok_or(Misread::NotANumber)?;
-    let seed = decimal_of(first).ok_or(Misread::NotANumber)?;
-    let count = only_number(rest)?;
-    if count > MOST {
-        return Err(Misread::NotANumber);
-    }
+    let mut arguments = Arguments::of(line);
+    let seed = arguments.number(u64::MAX)?;
+    let count = arguments.number(MOST)?;
+    arguments.end().map_err(|_| Misread::NotANumber)?;
     Ok((seed, count))
 }
 

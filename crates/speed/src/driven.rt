@@ -47,6 +47,7 @@ impl Driven {
     }
 
     // Feeds until a feed serves no frame.
+    // Form: a loop of its own, since replay's `feed_all` keeps all answers and outputs on the heap, which would be counted.
     pub fn feed_all(&mut self, bytes: &[u8]) {
         let mut rest = bytes;
         for _ in 0..u64::MAX {

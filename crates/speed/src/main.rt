@@ -5,15 +5,10 @@ mod driven;
 mod load;
 mod source;
 
-use commands::{Answers, LineError, Misread, answer_all, only_number};
+use commands::{Answers, LineError, Misread, answer_all, only_number32};
 use lines::next_word;
 use load::Load;
 use std::process::ExitCode;
-
-// How much of a load is asked for.
-fn read_count(line: &[u8]) -> Result<u32, Misread> {
-    u32::try_from(only_number(line)?).map_err(|_| Misread::NotANumber)
-}
 
 // Drives a unit, and prints the hash over what it wrote.
 fn print_hash(rt: &HostRuntime, load: Load, count: u32) -> anyhow::Result<()> {
@@ -32,7 +27,7 @@ impl Answers for Speed {
             return Ok(());
         };
         let load = Load::of(command).ok_or(Misread::UnknownCommand)?;
-        print_hash(rt, load, read_count(rest)?)?;
+        print_hash(rt, load, only_number32(rest)?)?;
         Ok(())
     }
 }
