@@ -1,6 +1,6 @@
+// Worked examples of the libraries, each proved to be safe and then run.
 #![tactic(auto)]
 
-// Worked examples of the libraries, each proved to be safe and then run.
 #[cfg(test)]
 mod frames;
 #[cfg(test)]

@@ -1,6 +1,6 @@
+// Worked examples of stores and sensors, each proved to be safe and then run.
 #![tactic(auto)]
 
-// Worked examples of stores and sensors, each proved to be safe and then run.
 #[cfg(test)]
 mod sensors;
 #[cfg(test)]

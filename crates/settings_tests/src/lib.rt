@@ -1,6 +1,6 @@
+// Worked examples of settings, of what messages ask for, of changes and of answers, each proved to be safe and then run.
 #![tactic(auto)]
 
-// Worked examples of settings, of what messages ask for, of changes and of answers, each proved to be safe and then run.
 #[cfg(test)]
 mod answers;
 #[cfg(test)]

@@ -1,7 +1,11 @@
+// Worked examples of units and of calls played on them, each proved to be safe and then run.
 #![tactic(auto)]
 
-// Worked examples of units and of calls played on them, each proved to be safe and then run.
+#[cfg(test)]
+mod examples;
 #[cfg(test)]
 mod replays;
+#[cfg(test)]
+mod silent;
 #[cfg(test)]
 mod units;

@@ -25,15 +25,19 @@ fn wrote(rt: &impl Abort, tray: &[u8], bytes: &[u8]) {
     assert_eq!(rt; tray.get(..bytes.len()), Some(bytes));
 }
 
+// The first session of docs/BENCH.md: an MTi-3 over a page of four slots, all FF.
 #[test]
 fn device_id(rt: HostRuntime) {
     let mut tray = [0; LONGEST];
-    let mut device = Device::new(Product::Mti3, 0x0102_0304, Cell::new(10), Ramp);
+    let mut memory = [0xFF; 564];
+    let mut device = Device::new(Product::Mti3, 0x0102_0304, Page::over(&mut memory), Ramp);
     assert_eq!(rt; device.power(&mut tray), Ok(5));
     wrote(&rt, &tray, &[0xFA, 0xFF, 0x3E, 0x00, 0xC3]);
     assert_eq!(rt; device.feed(&WAKE_UP_ACK, &mut tray), served(5, 0));
     assert_eq!(rt; device.feed(&REQ_DID, &mut tray), served(5, 9));
     wrote(&rt, &tray, &[0xFA, 0xFF, 0x01, 0x04, 1, 2, 3, 4, 0xF2]);
+    let (page, _) = device.into_parts();
+    assert_eq!(rt; page.writes_left(), 4);
 }
 
 #[test]
