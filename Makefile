@@ -2,7 +2,7 @@
 # make test     the gate: quick checks, then everything proved; ends in 'N passed, 0 failed'
 # make planted  tries every planted bug: the prover must refuse each
 # make reference  builds the independent implementation (target/reference)
-# make compare N=1000 SEED=1  plays N random sessions on both, and compares what they print
+# make compare N=1000 SEED=1  plays N random sessions and misread lines on both, and compares what they print
 # make embed    builds a C program over the static library, and compares it with bench
 # make speed    counts the instructions per tick and per byte of both
 
@@ -26,7 +26,9 @@ planted: tools
 	@scripts/planted
 
 compare: tools reference
-	@(cd crates/sessions && rt run <stdin) >target/run.log 2>&1 || { tail -n 5 target/run.log; exit 1; }
+	@for name in bench messages sessions speed; do \
+	    (cd crates/$$name && rt run <stdin) >target/run.log 2>&1 || { tail -n 5 target/run.log; exit 1; }; \
+	done
 	@scripts/compare $(N) $(SEED)
 
 embed: tools

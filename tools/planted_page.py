@@ -1,5 +1,6 @@
 #!/usr/bin/env python3
 """Writes docs/PLANTED.md from what `rt must-fail` printed: each planted bug, and the goal at which the prover refused it.
+A bug that is in none of the logs keeps its line, and one that has neither is named on standard error.
 
 Usage: tools/planted_page.py LOG..
 """
@@ -41,43 +42,57 @@ def place(crate, why):
 
 
 def file_of(folder, crate, label):
-    """The file that a bug is planted in."""
-    path = os.path.join(TOP, folder.format(crate), label + ".edit")
-    if not os.path.exists(path):
-        return None
-    with open(path) as edit:
-        return edit.readline().split(":", 1)[1].strip()
+    """The file that a bug is planted in, and whether it is planted in others alike."""
+    with open(os.path.join(TOP, folder.format(crate), label + ".edit")) as edit:
+        files = [line.split(":", 1)[1].strip() for line in edit if line.startswith("file:")]
+    return f"`{files[0]}`" + (" and alike" if len(set(files)) > 1 else "")
+
+
+def bugs():
+    """The planted bugs by crate: label, file and who tries it."""
+    for crate in sorted(os.listdir(os.path.join(TOP, "crates"))):
+        for folder, tried in (("crates/{}/must-fail", "the gate"), ("planted/{}", "planted")):
+            path = os.path.join(TOP, folder.format(crate))
+            for edit in sorted(os.listdir(path) if os.path.isdir(path) else []):
+                label = edit.removesuffix(".edit")
+                yield crate, label, file_of(folder, crate, label), tried
+
+
+def page_lines(path):
+    """The lines in front of the first crate, and each crate's lines by the bug."""
+    with open(path) as page:
+        top, *sections = page.read().split("\n## ")
+    kept = {}
+    for section in sections:
+        crate, *lines = section.split("\n")
+        for line in lines:
+            cells = line.split(" | ")
+            if len(cells) == 5 and not line.startswith("| Bug"):
+                kept[crate, cells[0].removeprefix("| ")] = cells[3:]
+    return top.rstrip("\n"), kept
 
 
 def main():
-    rows = {}
+    found_at = {}
     for log in sys.argv[1:]:
         with open(log) as text:
             for line in text:
                 found = LINE.search(line)
                 if found:
-                    rows[found.group(1), found.group(2)] = found.group(3)
-    out = [
-        "# Planted bugs",
-        "",
-        "Each is written into the code (or, in `session`, into a definition) for a moment, alone; the prover has to refuse it.",
-        "Those of the gate are tried by `make test`, the others, under `planted/`, by `make planted`. The goal is the first that",
-        "was not proved: a `returns` is a clause of the function's contract (its name behind `clause`), a `loop` an invariant, and",
-        "in a file of lemmas it is the lemma.",
-    ]
-    for crate in sorted({crate for crate, _ in rows}):
-        out += ["", f"## {crate}", "", "| Bug | In | Tried by | Refused at | Goal |", "|---|---|---|---|---|"]
-        for (owner, label), why in sorted(rows.items()):
-            if owner != crate:
-                continue
-            gate = file_of("crates/{}/must-fail", crate, label)
-            file = gate or file_of("planted/{}", crate, label)
-            if file is None:
-                continue
-            where, goal = place(crate, why)
-            tried = "the gate" if gate else "planted"
-            out.append(f"| {label.replace('_', ' ')} | `{file}` | {tried} | {where} | {goal} |")
-    with open(os.path.join(TOP, "docs", "PLANTED.md"), "w") as page:
+                    found_at[found.group(1), found.group(2)] = place(found.group(1), found.group(3))
+    path = os.path.join(TOP, "docs", "PLANTED.md")
+    top, kept = page_lines(path)
+    rows = {}
+    for crate, label, file, tried in bugs():
+        name = label.replace("_", " ")
+        where, goal = found_at.get((crate, label)) or (cell.removesuffix(" |") for cell in kept.get((crate, name), ("", "")))
+        if not where:
+            print(f"planted_page: nothing is known of {crate}/{label}", file=sys.stderr)
+        rows.setdefault(crate, []).append(f"| {name} | {file} | {tried} | {where} | {goal} |")
+    out = [top]
+    for crate, lines in sorted(rows.items()):
+        out += ["", f"## {crate}", "", "| Bug | In | Tried by | Refused at | Goal |", "|---|---|---|---|---|", *sorted(lines)]
+    with open(path, "w") as page:
         page.write("\n".join(out) + "\n")
 
 
