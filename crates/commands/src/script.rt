@@ -1,5 +1,5 @@
 // The lines that a program reads, and the status with which it ends.
-ghost use Rattle.std.specs.Prelude.{◌≡◌, ◌<◌, MatchOption};
+ghost use Rattle.std.specs.Prelude.{◌≡◌, ◌+◌, ◌-◌, ◌^◌, ◌<◌, min, MatchOption};
 ghost use Rattle.std.specs.Option.{option_map};
 ghost use Rattle.lines.specs.Lines.{next_line};
 ghost use Rattle.commands.specs.Scripts.{rest_of, unread, first_line, status_after};
@@ -28,6 +28,7 @@ pub struct Script<'a> {
 impl<'a> Script<'a> {
     pub fn over(text: &'a [u8]) -> Script<'a>
         ensures rest { rest_of result ≡ text.now }
+        ensures number { result.number ≡ 0 }
         ensures status { result.status ≡ ExitCode.SUCCESS }
     {
         Script {
@@ -49,6 +50,8 @@ impl<'a> Script<'a> {
     pub fn next(&mut self) -> Option<&'a [u8]>
         ensures line { option_map (λ line. line.now) result ≡ first_line self.old }
         ensures rest { MatchOption (next_line (rest_of self.old)) (rest_of self.new ≡ rest_of self.old) (λ q. rest_of self.new ≡ q.1) }
+        ensures number { MatchOption result (self.new.number ≡ self.old.number) (λ _. self.new.number ≡ min (self.old.number + 1) (2 ^ 64 - 1)) }
+        ensures status { self.new.status ≡ self.old.status }
         ensures fewer { MatchOption result (unread self.new ≡ unread self.old) (λ _. unread self.new < unread self.old) }
     {
         let (line, rest) = next_line(self.rest)?;
