@@ -1,4 +1,5 @@
 // Sensors: the ramp and recorded rows.
+use crate::any::reading_of_any;
 use mti::Kind;
 use sensor::{Question, Ramp, Recorded, Row, Sensor, asked, two_readings};
 use std::process::Abort;
@@ -170,4 +171,18 @@ fn two_questions(rt: HostRuntime) {
     let (one, other) = two_readings(&mut sensor, first, second);
     assert_eq!(rt; one, Some(-32763 * ONE));
     assert_eq!(rt; other, Some(3));
+}
+
+// The same answers through a trait object.
+#[test]
+fn any_sensor(rt: HostRuntime) {
+    let rows = [Row {
+        channel: 0xE020,
+        tick: 3,
+        numbers: [-1; 9],
+    }];
+    let mut recorded = Recorded { rows: &rows };
+    assert_eq!(rt; reading_of_any(&mut recorded, at(0xE020, 0, 2)), None);
+    assert_eq!(rt; reading_of_any(&mut recorded, at(0xE020, 0, 3)), Some(0));
+    assert_eq!(rt; reading_of_any(&mut Ramp, at(0x2010, 0, 32769)), Some(ONE));
 }

@@ -2,6 +2,7 @@
 ghost use Rattle.std.specs.Prelude.{◌≡◌};
 ghost use Rattle.store.specs.Slots.{bytes_after};
 
+use crate::any::{left_of_any, load_any, save_any};
 use std::process::Abort;
 use store::{Cell, IMAGE, Loaded, Page, Store, StoreError, try_store};
 
@@ -137,4 +138,23 @@ fn the_last_image_saved_is_loaded(rt: HostRuntime) {
     let trial = try_store(&mut Cell::new(1), &[4; IMAGE], &[5; IMAGE], &mut buf);
     assert_eq!(rt; trial.second, Err(StoreError::NoWritesLeft));
     assert_eq!(rt; buf[0], 4);
+}
+
+// The same answers through a trait object.
+#[test]
+fn any_store(rt: HostRuntime) {
+    let mut memory = [0xFF; 141];
+    let mut page = Page::over(&mut memory);
+    let mut buf = [0u8; IMAGE];
+    assert_eq!(rt; load_any(&mut page, &mut buf), Ok(Loaded::None));
+    assert_eq!(rt; save_any(&mut page, &[7; IMAGE]), Ok(()));
+    assert_eq!(rt; load_any(&mut page, &mut buf), Ok(Loaded::Held));
+    assert_eq!(rt; buf, [7; IMAGE]);
+    assert_eq!(rt; left_of_any(&page), 0);
+    let mut cell = Cell::new(1);
+    assert_eq!(rt;
+        save_any(&mut cell, &[7; 139]),
+        Err(StoreError::WrongLength)
+    );
+    assert_eq!(rt; left_of_any(&cell), 1);
 }

@@ -13,7 +13,7 @@ use Rattle.sensor.specs.Questions.{asked_of, Asked}
 use Rattle.sensor.specs.Ranges.{clamped_of, Clamped}
 use Rattle.sensor.specs.Records.{counts_at, chosen_of, last_of, number_at, number_of, replayed_at, recorded_of, Counts, NoneCounts, Last, LastReading, Replayed}
 use Rattle.sensor.proofs.Answered.{asked_sound, asked_complete}
-use Rattle.sensor.specs.Kept.{clamped_within}
+use Rattle.sensor.proofs.Kept.{clamped_within}
 
 -- ---- the clamp
 

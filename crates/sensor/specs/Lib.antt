@@ -2,4 +2,3 @@ pub mod Questions
 pub mod Ranges
 pub mod Ramps
 pub mod Records
-pub mod Kept

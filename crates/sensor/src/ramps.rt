@@ -1,7 +1,6 @@
 // A synthetic sensor.
 ghost use Rattle.std.specs.Prelude.{◌≡◌, ◌<◌};
 ghost use Rattle.sensor.specs.Ramps.{ramp_at, ramp_of};
-ghost use Rattle.sensor.specs.Kept.{ramp_ranged};
 
 use crate::questions::asked;
 use crate::sensors::{Question, Sensor};
@@ -28,8 +27,7 @@ fn climb(kind: Kind, question: Question) -> i64
 impl Sensor for Ramp {
     ghost meaning = { λ _. ramp_of };
 
-    ghost ranged = { λ _. ramp_ranged };
-
+    #[tactic(auto, using(crate::proofs::Kept::ramp_ranged))]
     fn reading(&mut self, question: Question) -> Option<i64> {
         let kind = asked(question.channel, question.index)?;
         Some(climb(kind, question))

@@ -1,6 +1,6 @@
 // A sensor over recorded rows.
 ghost use Rattle.std.specs.Prelude.{◌≡◌};
-ghost use Rattle.sensor.specs.Kept.{recorded_ranged};
+ghost use Rattle.sensor.specs.Ranges.{Ranged};
 ghost use Rattle.sensor.specs.Records.{counts_at, last_of, recorded_of, Replayed};
 
 use crate::questions::asked;
@@ -40,11 +40,11 @@ pub struct Recorded<'a> {
 impl Sensor for Recorded<'_> {
     ghost meaning = { λ s. recorded_of s.rows.now };
 
-    ghost ranged = { λ s. recorded_ranged s.rows.now };
-
+    #[tactic(auto, using(crate::proofs::Kept::recorded_ranged))]
     fn reading(&mut self, question: Question) -> Option<i64>
         ensures answer { result ≡ recorded_of self.old.rows.now question.channel question.index question.tick }
         ensures stays { recorded_of self.new.rows.now ≡ recorded_of self.old.rows.now }
+        ensures range { Ranged (recorded_of self.old.rows.now) }
         ensures last { Replayed self.old.rows.now question.channel question.index question.tick result }
     {
         let kind = asked(question.channel, question.index)?;

@@ -10,16 +10,15 @@ pub struct Question {
     pub tick: u32,
 }
 
-// A sensor means a number or none for each channel, index and tick. To ask it changes nothing.
+// A sensor means a number or none for each channel, index and tick. To ask it changes nothing,
+// and the answer says that each number is in its channel's range.
 pub trait Sensor {
     ghost meaning: { Self → ℕ → ℕ → ℕ → Option ℤ };
 
     fn reading(&mut self, question: Question) -> Option<i64>
         ensures answer { result ≡ meaning self.old question.channel question.index question.tick }
-        ensures stays { meaning self.new ≡ meaning self.old };
-
-    // each number is in its channel's range
-    ghost ranged: { (s : Self) → Ranged (meaning s) };
+        ensures stays { meaning self.new ≡ meaning self.old }
+        ensures range { Ranged (meaning self.old) };
 }
 
 // The readings of one question and then of another, each as if it had been asked alone.

@@ -8,7 +8,7 @@ use Rattle.std.proofs.lemmas.Option.{slice_get-get_or, slice_get_within}
 use Rattle.std.proofs.lemmas.Bool.{cases_lt}
 use Rattle.store.specs.Meaning.{image_size}
 use Rattle.store.specs.Slots.{slot_size, slots, image_at, slots_of, used, held_in}
-use Rattle.store.specs.Held.{length_cut, used_within}
+use Rattle.store.proofs.Held.{length_cut, used_within}
 use Rattle.store.proofs.Calls.{held_none, held_last}
 use Rattle.store.proofs.Cut.{slot_at, get_cut, image_behind}
 
@@ -17,6 +17,22 @@ chunk_is : (r : Option (Bor (List ℕ))) (s : List ℕ) → image_size ≤ lengt
     → option_copied r ≡ Some (drop (length s - image_size) s)
 chunk_is None s l h = absurd (omega arith)
 chunk_is (Some y) s l h = ap Some h.1.same
+
+-- where there is no last of the first u slots, none is used
+pub none_held : (bs : List ℕ) (cut : List (List ℕ)) (u : ℕ) → cut ≡ slots_of bs → slice_get (take u cut) (length (take u cut) - 1) ≡ None
+    → (0 < used bs → 0 < u) → held_in bs ≡ None
+none_held bs cut u e h more =
+    held_none bs
+    (⊎_elim
+    (λ m.
+    let some : 0 < u = more m in
+    let within : length (take u cut) - 1 < length (take u cut) =
+    omega (arith, length-take u cut, ap length e ∙ length_cut slot_size (slots bs) bs, used_within bs) in
+    let q : Some (get_or (take u cut) (length (take u cut) - 1) []) ≡ None =
+    sym (slice_get-get_or (take u cut) (length (take u cut) - 1) [] within) ∙ h in
+    absurd (grind arith))
+    (λ l. omega arith)
+    (cases_lt 0 (used bs)))
 
 -- the last of the used slots
 module _ (bs : List ℕ) (cut : List (List ℕ)) (u : ℕ) (n : u ≡ used bs) (e : cut ≡ slots_of bs) where
@@ -34,10 +50,6 @@ module _ (bs : List ℕ) (cut : List (List ℕ)) (u : ℕ) (n : u ≡ used bs) (
       ∙ ap Some (get_or-take u cut (length (take u cut) - 1) [] (omega arith)
       ∙ (ap (λ (c : List (List ℕ)). get_or c (length (take u cut) - 1) []) e
       ∙ (get_cut (slots bs) (length (take u cut) - 1) bs (omega (arith, n, used_within bs)) ∙ ap (slot_at bs) at)))
-
-  pub none_held : last ≡ None → held_in bs ≡ None
-  none_held h =
-      held_none bs (⊎_elim (λ m. let q : Some (slot_at bs (u - 1)) ≡ None = sym (last_is m) ∙ h in absurd (grind arith)) (λ l. omega (arith, n)) (cases_lt 0 u))
 
   pub some_held : (s : List ℕ) (r : Option (Bor (List ℕ))) → last ≡ Some s
       → MatchOption r (length s < image_size) (λ y. (image_size ≤ length s) × IsWholeChunk (drop (length s - image_size) s) y.now image_size)

@@ -5,3 +5,4 @@ pub mod Runs
 pub mod Writes
 pub mod Calls
 pub mod Last
+pub mod Held

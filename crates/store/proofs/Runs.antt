@@ -3,7 +3,7 @@ use Rattle.std.proofs.Common.{◌≡◌, ℕ, ◌<◌, eqb, List, [], get_or, sy
 use Rattle.std.proofs.lemmas.List.Sums.{prefix_len_is, prefix_len_passes, prefix_len_stops}
 use Rattle.std.proofs.lemmas.Bool.{eqb-true, eqb-false, eq-eqb, ne_eqb}
 use Rattle.store.specs.Slots.{slot_size, slots, mark_at, slots_of, is_used, used, LongestRun, UsedSaid}
-use Rattle.store.specs.Held.{length_cut, used_within}
+use Rattle.store.proofs.Held.{length_cut, used_within}
 use Rattle.store.proofs.Cut.{get_cut, mark_in_front}
 
 -- a slot is used if its mark is 00

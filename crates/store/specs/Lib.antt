@@ -2,4 +2,3 @@ pub mod Meaning
 pub mod Refused
 pub mod Slots
 pub mod Trial
-pub mod Held

@@ -27,8 +27,6 @@ impl Store for Cell {
 
     ghost left = { λ s. s.rating };
 
-    ghost image_or_none = { λ s. s.sized };
-
     fn load(&mut self, buf: &mut [u8]) -> Result<Loaded, StoreError> {
         hand_out(self.kept.as_ref(), buf)
     }

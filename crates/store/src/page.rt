@@ -1,9 +1,8 @@
 // A store over lent memory, which is cut into slots that are each written once.
 ghost use Rattle.std.specs.Prelude.{◌≡◌, length};
 ghost use Rattle.std.specs.Option.{option_copied};
-ghost use Rattle.store.specs.Meaning.{load_answer, buffer_after, save_answer, held_after, left_after};
+ghost use Rattle.store.specs.Meaning.{ImageOrNone, load_answer, buffer_after, save_answer, held_after, left_after};
 ghost use Rattle.store.specs.Slots.{used, held_in, left_in, saved, bytes_after, rest, UsedSaid};
-ghost use Rattle.store.specs.Held.{image_or_none_in};
 
 use crate::image::hand_out;
 use crate::port::{IMAGE, Loaded, Store, StoreError};
@@ -56,31 +55,37 @@ impl Store for Page<'_> {
 
     ghost overwritten = { saved };
 
-    ghost image_or_none = { λ s. image_or_none_in s.bytes.now };
-
+    #[tactic(auto, using(crate::proofs::Held::image_or_none_in))]
     fn load(&mut self, buf: &mut [u8]) -> Result<Loaded, StoreError>
         ensures answer { result ≡ load_answer (length buf.old) (held_in self.old.bytes.now) }
         ensures buffer { buf.new ≡ buffer_after buf.old (held_in self.old.bytes.now) }
         ensures held { held_in self.new.bytes.now ≡ held_in self.old.bytes.now }
         ensures left { left_in self.new.bytes.now ≡ left_in self.old.bytes.now }
         ensures memory { self.new.bytes.now ≡ self.old.bytes.now }
+        ensures meant { ImageOrNone (held_in self.old.bytes.now) }
         ensures lent { self.new.bytes.ghost_name ≡ self.old.bytes.ghost_name }
     {
         hand_out(self.held_image(), buf)
     }
 
+    #[tactic(auto, using(crate::proofs::Held::image_or_none_in))]
     fn save(&mut self, image: &[u8]) -> Result<(), StoreError>
         ensures answer { result ≡ save_answer (length image.now) (left_in self.old.bytes.now) }
         ensures held { held_in self.new.bytes.now ≡ held_after image.now (left_in self.old.bytes.now) (held_in self.old.bytes.now) }
         ensures left { left_in self.new.bytes.now ≡ left_after image.now (left_in self.old.bytes.now) }
         ensures memory { self.new.bytes.now ≡ bytes_after image.now self.old.bytes.now }
+        ensures meant { ImageOrNone (held_in self.old.bytes.now) }
         ensures rest { rest self.new.bytes.now ≡ rest self.old.bytes.now }
         ensures lent { self.new.bytes.ghost_name ≡ self.old.bytes.ghost_name }
     {
         save_to(self.bytes, image)
     }
 
-    fn writes_left(&self) -> u64 {
+    #[tactic(auto, using(crate::proofs::Held::image_or_none_in))]
+    fn writes_left(&self) -> u64
+        ensures value { result ≡ left_in self.now.bytes.now }
+        ensures meant { ImageOrNone (held_in self.now.bytes.now) }
+    {
         left_in(self.bytes) as u64
     }
 }

@@ -33,7 +33,7 @@ pub enum Loaded {
     None,
 }
 
-// What keeps an image or none, and takes so many writes more.
+// What keeps an image or none, and takes so many writes more. Each method says that what is held is an image.
 pub trait Store {
     // the image, if one is held
     ghost held: { Self → Option (List ℕ) };
@@ -52,18 +52,18 @@ pub trait Store {
         ensures buffer { buf.new ≡ buffer_after buf.old (held self.old) }
         ensures held { held self.new ≡ held self.old }
         ensures left { left self.new ≡ left self.old }
-        ensures memory { memory self.new ≡ memory self.old };
+        ensures memory { memory self.new ≡ memory self.old }
+        ensures meant { ImageOrNone (held self.old) };
 
     // Holds the image from now on.
     fn save(&mut self, image: &[u8]) -> Result<(), StoreError>
         ensures answer { result ≡ save_answer (length image.now) (left self.old) }
         ensures held { held self.new ≡ held_after image.now (left self.old) (held self.old) }
         ensures left { left self.new ≡ left_after image.now (left self.old) }
-        ensures memory { memory self.new ≡ memory_after overwritten image.now (left self.old) (memory self.old) };
+        ensures memory { memory self.new ≡ memory_after overwritten image.now (left self.old) (memory self.old) }
+        ensures meant { ImageOrNone (held self.old) };
 
     fn writes_left(&self) -> u64
-        ensures value { result ≡ left self.now };
-
-    // what is held is an image
-    ghost image_or_none: { (s : Self) → ImageOrNone (held s) };
+        ensures value { result ≡ left self.now }
+        ensures meant { ImageOrNone (held self.now) };
 }

@@ -1,6 +1,5 @@
 // A sensor of one's own, as in docs/USING.md: it has no reading.
 ghost use Rattle.std.specs.Prelude.{None};
-ghost use Rattle.unit_tests.specs.Silent.{silent_ranged};
 
 use mti::Product;
 use sensor::{Question, Sensor};
@@ -13,9 +12,8 @@ struct Silent;
 impl Sensor for Silent {
     ghost meaning = { λ _ channel index tick. None };
 
-    // its numbers are in their channels' ranges: a lemma
-    ghost ranged = { λ _. silent_ranged };
-
+    // its numbers are in their channels' ranges: by a lemma
+    #[tactic(auto, using(crate::proofs::NoReading::silent_ranged))]
     fn reading(&mut self, _question: Question) -> Option<i64> {
         None
     }

@@ -25,7 +25,7 @@ unwrap-at-requires g c =
     let l : c.loop-index.index < c.args.count = search rules in
     let size : length c.loop-index.out ≡ c.args.count * width_of c.args.output.precision = search rules in
     let h = real_within _ c.args.output.channel.identifier c.args.tick c.loop-index.index c.args.count c.args.output.channel v
-    (g.met.T.Sensor.ranged c.loop-index.sensor) (c.requires.row, refl) c.requires.kind l t c.in_ok-value.ensures.answer in
+    c.in_ok-value.ensures.range (c.requires.row, refl) c.requires.kind l t c.in_ok-value.ensures.answer in
     subst IsOk (sym (real_put c.put_real.result c.args.output.precision v c.loop-index.index c.args.count c.loop-index.at c.loop-index.out f h l
     c.loop-index.invariant.at size c.put_real.ensures.answer)) refl
 

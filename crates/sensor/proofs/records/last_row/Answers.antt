@@ -10,5 +10,5 @@ pub returns : goal.returns
 returns c =
     c.copied.ensures
     ∙ find_from_yields_List (counts_at c.args.question.channel c.args.question.tick) _ _ c.find.result c.find.ensures.ran
-    (YieldsList-from_rev_slice c.args.rows.now cc) (λ x b q k. search (rules, tests))
+    (YieldsList-from_rev_slice c.args.rows.now cc) (λ x b q k. (search rules, search (rules, tests)))
     ∙ last_from_end c.args.question.channel c.args.question.tick c.args.rows.now

@@ -7,10 +7,9 @@ pub returns-clause-range : goal.returns-clause-range
 returns-clause-range g c =
     let one = c.args.first in
     let other = c.args.second in
-    let ranged = g.met.S.Sensor.ranged in
     let s : one.tick < 2 ^ 32 = search rules in
     let t : other.tick < 2 ^ 32 = search rules in (
-      subst (InRange one.channel one.index) (sym c.reading-one.ensures.answer) ((ranged _).in_range one.channel one.index one.tick s),
+      subst (InRange one.channel one.index) (sym c.reading-one.ensures.answer) (c.reading-one.ensures.range.in_range one.channel one.index one.tick s),
       subst (InRange other.channel other.index) (sym c.reading-other.ensures.answer)
-          ((ranged _).in_range other.channel other.index other.tick t),
+          (c.reading-other.ensures.range.in_range other.channel other.index other.tick t),
     )

@@ -6,7 +6,7 @@ use Rattle.std.proofs.lemmas.Iterator.Search.{YieldsList-from_take_while}
 use Rattle.std.proofs.lemmas.List.Folds.{length-prefix_len}
 use Rattle.std.specs.List.{prefix_len}
 use Rattle.store.specs.Slots.{is_used, used}
-use Rattle.store.specs.Held.{used_within}
+use Rattle.store.proofs.Held.{used_within}
 use Rattle.store.proofs.Runs.{used_said}
 use Rattle.store.proofs.slots.used_slots.Goals as goal
 

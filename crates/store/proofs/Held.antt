@@ -1,4 +1,4 @@
--- What memory in slots holds is an image or none: the proof of a law.
+-- What memory in slots holds is an image or none.
 use Rattle.std.proofs.Common.{◌≡◌, ℕ, zero, suc, ◌+◌, ◌-◌, ◌*◌, ◌<◌, ◌≤◌, eqb, List, length, drop, Some, None, refl, ap, arith}
 use Rattle.std.specs.Simd.{first_chunks}
 use Rattle.std.proofs.lemmas.List.{length-take, length-drop}

@@ -1,4 +1,4 @@
--- The ramp and recorded rows keep to the ranges: the proofs of a law.
+-- The ramp and recorded rows keep to the ranges.
 use Rattle.std.proofs.Common.{◌≡◌, ℕ, ◌+◌, ◌*◌, ◌%◌, ◌^◌, ◌<◌, ltb, List, ℤ, Some, None, Option, sym, refl, ap, ◌∙◌, subst, arith}
 use Rattle.std.specs.Option.{option_map, option_flatten}
 use Rattle.std.proofs.lemmas.Bool.{cond_both}
@@ -26,7 +26,7 @@ asked_by c k ch P b none some =
     (λ _. subst Q (sym found) (cond_both (ltb k (count_of ch.kind)) (Some ch.kind) None P (λ _. some) (λ _. none)))
 
 -- a sensor with no number where it is not asked, and one within the range where it is, is in range everywhere
-kept_ranged : (f : ℕ → ℕ → ℕ → Option Kind → Option ℤ) → ((c k t : ℕ) → f c k t None ≡ None)
+pub kept_ranged : (f : ℕ → ℕ → ℕ → Option Kind → Option ℤ) → ((c k t : ℕ) → f c k t None ≡ None)
     → ((c k t : ℕ) (kind : Kind) (v : ℤ) → t < 2 ^ 32 → f c k t (Some kind) ≡ Some v → Within kind v)
     → Ranged (λ c k t. f c k t (asked_of c k))
 kept_ranged f none some = record {
