@@ -101,8 +101,10 @@ pub fn answer_all<A: Answers>(rt: &HostRuntime, program: &mut A) -> anyhow::Resu
     let input = read_input(rt)?;
     let mut script = Script::over(input.as_slice());
     while let Some(line) = script.next() {
-        let answered = program.answer(rt, line);
-        script.settle(rt, answered)?;
+        // An answered line moves no error.
+        if let Err(error) = program.answer(rt, line) {
+            script.settle(rt, Err(error))?;
+        }
     }
     Ok(script.status())
 }

@@ -1,8 +1,10 @@
 // Readings in four precisions: one as text, many as a hash.
 use commands::{Arguments, Hash, Misread, integer_of, next_number, only_word};
+use lines::digits;
 use mti::Precision;
 use numbers::{LOWEST, put_real};
-use std::fmt::Write;
+use std::alloc::AllocError;
+use std::str;
 
 const PRECISIONS: [Precision; 4] = [
     Precision::Single,
@@ -29,6 +31,16 @@ pub fn read_seed_and_count(line: &[u8]) -> Result<(u64, u64), Misread> {
     Ok((seed, count))
 }
 
+// Appends the digits of bytes, without spaces.
+fn push_digits(out: &mut String, bytes: &[u8]) -> Result<(), AllocError> {
+    for byte in bytes {
+        if let Ok(text) = str::from_utf8(&digits(*byte)) {
+            out.push_str(text)?;
+        }
+    }
+    Ok(())
+}
+
 // Prints a reading in the four precisions.
 // Form: a loop like that of add_reading, since a function for both would hand out a buffer and its size.
 pub fn print_reading(rt: &HostRuntime, value: i64) -> anyhow::Result<()> {
@@ -40,9 +52,7 @@ pub fn print_reading(rt: &HostRuntime, value: i64) -> anyhow::Result<()> {
             return Ok(());
         };
         text.push_str(" ")?;
-        for byte in &bytes[0..size] {
-            write!(text, "{byte:02X}")?;
-        }
+        push_digits(&mut text, &bytes[0..size])?;
     }
     rt.println(text.as_str())?;
     Ok(())
