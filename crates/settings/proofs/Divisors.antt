@@ -1,13 +1,15 @@
 -- The largest divisor of a maximum: how a search from above meets it, and what it is in words.
-use Rattle.std.proofs.Common.{◌≡◌, ℕ, zero, suc, ◌+◌, ◌-◌, ◌/◌, ◌%◌, ◌<◌, ◌≤◌, Bool, true, false, cond, List, [], ◌∷◌, Some, Option, min, eqb, refl, sym, ap, ◌∙◌, ⊎_elim, mod-eq_of_lt, div-add-mod', arith}
+use Rattle.std.proofs.Common.{◌≡◌, ℕ, zero, suc, ◌+◌, ◌-◌, ◌/◌, ◌%◌, ◌<◌, ◌≤◌, Bool, true, false, cond, List, [], ◌∷◌, Some, Option, map, min, eqb, refl, sym, ap, ◌∙◌, ⊎_elim, mod-eq_of_lt, div-add-mod', arith}
 use native.Mathlib.Nat.{mod-one, mul-mod_left}
 use Rattle.std.specs.List.{find}
 use Rattle.std.specs.Option.{unwrap_or}
 use Rattle.std.specs.Iterator.{AlwaysYields}
 use Rattle.std.specs.Iterator.Adapters.{rev_source, rev_steps}
-use Rattle.std.specs.Range.{range_inclusive_start, range_inclusive_end, range_inclusive_exhausted, range_inclusive_len, range_inclusive_left, range_inclusive_steps_back}
+use Rattle.std.specs.Range.{range_steps_back}
+use Rattle.std.specs.declared.iter.Rev.{Rev}
+use Rattle.std.specs.declared.ops.Range.{Range}
 use Rattle.std.proofs.lemmas.Iterator.{YieldsList}
-use Rattle.std.proofs.lemmas.Bool.{cond_both, eqb-true, eqb-false, cases_lt, cases_eq, cases_Bool}
+use Rattle.std.proofs.lemmas.Bool.{cond_both, eqb-true, eqb-false, cases_lt, cases_eq}
 use Rattle.settings.specs.Rates.{divisor_from, largest_divisor, Divides, Largest, DivisorSaid}
 
 -- ---- the search from above
@@ -21,40 +23,29 @@ first_or : (b : Bool) (x r : ℕ) (o : Option ℕ) → unwrap_or o 0 ≡ r → u
 first_or true x r o e = refl
 first_or false x r o e = e
 
-pub found_down : (m n : ℕ) → unwrap_or (find (λ (d : ℕ). eqb (m % d) 0) (down n)) 0 ≡ divisor_from m n
-found_down m zero = refl
-found_down m (suc n) = first_or (eqb (m % suc n) 0) (suc n) _ _ (found_down m n)
+-- no number of a `u16` is cut off
+pub found_down : (m n : ℕ) → n ≤ 65535
+    → unwrap_or (find (λ (d : ℕ). eqb (m % d) 0) (map (λ (d : ℕ). min d 65535) (down n))) 0 ≡ divisor_from m n
+found_down m zero fits = refl
+found_down m (suc n) fits =
+    let whole : min (suc n) 65535 ≡ suc n = omega (arith, fits) in
+    ap
+    (λ (d : ℕ). unwrap_or (cond (eqb (m % d) 0) (Some d) (find (λ (d : ℕ). eqb (m % d) 0) (map (λ (d : ℕ). min d 65535) (down n)))) 0)
+    whole
+    ∙ first_or (eqb (m % suc n) 0) (suc n) _ _ (found_down m n (omega (arith, fits)))
 
--- how many numbers a range has left, whose last is taken or not
-abbrev left : ℕ → ℕ → Bool → ℕ
-left a b taken = range_inclusive_len (λ (x y : ℕ). y - x) a b taken
-
-gives_down : (n : ℕ) (s : _) → range_inclusive_left (λ (x y : ℕ). y - x) (rev_source s) ≡ n
-    → (0 < n → range_inclusive_end (rev_source s) ≡ n) → AlwaysYields (rev_steps (range_inclusive_steps_back (λ (x y : ℕ). y - x) (λ (x y : ℕ). y ≡ x + 1))) (λ (x : ℕ). x) s (down n)
-gives_down zero s e f = λ x j p. omega (arith, p.1.1)
-gives_down (suc n) s e f = (
-  (λ j p. omega (arith, p.1.0)),
-  λ x j p.
-      let a = range_inclusive_start (rev_source j) in
-      let b = range_inclusive_end (rev_source j) in
-      let l : range_inclusive_left (λ (x y : ℕ). y - x) (rev_source j) ≡ n = omega (arith, p.1.1) in
-      let end : range_inclusive_end (rev_source s) ≡ suc n = f (omega arith) in (
-        p.1.0 ∙ end,
-        gives_down n j l
-            (λ h.
-            ⊎_elim
-            (λ (t : range_inclusive_exhausted (rev_source j) ≡ true). absurd (omega (arith, ap (left a b) t)))
-            (λ (t : range_inclusive_exhausted (rev_source j) ≡ false). omega (arith, p.1.2 t))
-            (cases_Bool (range_inclusive_exhausted (rev_source j)))),
-      ),
+gives_down : (n : ℕ) (s : Rev (Range ℕ)) → (rev_source s).start ≡ 0 → (rev_source s).end ≡ n
+    → AlwaysYields (rev_steps (range_steps_back (λ (x y : ℕ). y - x) (λ (x y : ℕ). y ≡ x + 1))) (λ (x : ℕ). x + 1) s (down n)
+gives_down zero s a b = λ x j p. omega (arith, a, b, p.1.0)
+gives_down (suc n) s a b = (
+  (λ j p. omega (arith, a, b, p.1.0)),
+  λ x j p. (omega (arith, b, p.1.1, p.1.2), gives_down n j (p.0 ∙ a) (omega (arith, b, p.1.2))),
 )
 
--- the range from 1 to n, backwards
-pub counts_down : (n : ℕ) (s : _) → ◌≡◌ {A = ℕ} (range_inclusive_start (rev_source s)) 1 → range_inclusive_end (rev_source s) ≡ n
-    → range_inclusive_exhausted (rev_source s) ≡ false → YieldsList (rev_steps (range_inclusive_steps_back (λ (x y : ℕ). y - x) (λ (x y : ℕ). y ≡ x + 1))) (λ (x : ℕ). x) s (down n)
-counts_down n s a b e =
-    let l = ap (left (range_inclusive_start (rev_source s)) (range_inclusive_end (rev_source s))) e in
-    record { runs = gives_down n s (omega (arith, l)) (λ h. b) }
+-- the range from 0 to below n, backwards, with 1 added to each
+pub counts_down : (n : ℕ) (s : Rev (Range ℕ)) → (rev_source s).start ≡ 0 → (rev_source s).end ≡ n
+    → YieldsList (rev_steps (range_steps_back (λ (x y : ℕ). y - x) (λ (x y : ℕ). y ≡ x + 1))) (λ (x : ℕ). x + 1) s (down n)
+counts_down n s a b = record { runs = gives_down n s a b }
 
 -- ---- divisors
 

@@ -8,8 +8,9 @@ pub fn largest_divisor(max_hz: u16, asked: u16) -> u16
     ensures is { result ≡ largest_divisor max_hz asked }
     ensures said { DivisorSaid }
 {
-    (1..=asked.min(max_hz))
+    (0..asked.min(max_hz))
         .rev()
+        .map(|below| below.saturating_add(1))
         .find(|hz| max_hz % *hz == 0)
         .unwrap_or(0)
 }
