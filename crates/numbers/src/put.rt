@@ -15,7 +15,7 @@ pub enum NumberError {
 }
 
 // Writes a reading at the front of `out`, and says how many bytes that took.
-#[tactic(auto, using(crate::proofs::Fronts::meanings))]
+#[tactic(auto, using(crate::proofs::Fronts::meanings), unfolding(crate::specs::Encoding::encoded))]
 pub fn put_real(out: &mut [u8], value: i64, precision: Precision) -> Result<usize, NumberError>
     ensures answer { result ≡ putting (length out.old) precision value }
     ensures bytes { out.new ≡ put result out.old precision value }

@@ -1,7 +1,7 @@
 -- Each packet is added behind those before it, and one that is refused has no room.
 use Rattle.std.proofs.Common.{◌≡◌, length, Err, refl, ap, ◌∙◌, subst, rules}
 use Rattle.mtdata2.specs.Packets.{item, handed_out}
-use Rattle.draft.specs.Composed.{answered, asked, judged, Added}
+use Rattle.draft.specs.Composed.{answered, judged}
 use Rattle.draft.proofs.Recomposes.{Progress, progress_none, progress_added, handed_asked, refused_at}
 use Rattle.draft.proofs.composing.compose.Goals as goal
 
@@ -30,10 +30,7 @@ loop-packet-preserved c =
       tt,
       c.add.ensures.lends ∙ c.loop-packet.invariant.2,
       progress_added all m t c.loop-packet.tray c.add.new.tray d c.add.new.self i left content c.identifier.result c.in_ok-add.field-0
-          p is (subst (λ r. Added d c.add.new.self c.loop-packet.tray c.add.new.tray (asked content r.identifier r.place r.size)) c.whole.ensures c.in_ok-add.ensures.does)
-          c.add.ensures.old
-          (c.in_ok-add.ensures.says
-          ∙ ap (λ r. answered (judged (length content) r.identifier r.place r.size d.extent.start d.extent.size.len (length c.loop-packet.tray))) c.whole.ensures),
+          p is (rw c.whole.ensures at c.in_ok-add.ensures.does) c.add.ensures.old (rw c.whole.ensures at c.in_ok-add.ensures.says),
     )
 
 pub returns-in_err-add : goal.returns-in_err-add
@@ -49,8 +46,6 @@ returns-in_err-add c input msg =
     let e = c.in_err-add.field-0.0 in
     let p = subst (Progress all m t c.loop-packet.tray d) steps c.loop-packet.invariant.3 in
     let says : Err e ≡ answered (judged (length content) i.identifier 0 (length content) d.extent.start d.extent.size.len (length c.loop-packet.tray)) =
-    c.in_err-add.ensures.says
-    ∙ ap (λ r. answered (judged (length content) r.identifier r.place r.size d.extent.start d.extent.size.len (length c.loop-packet.tray))) c.whole.ensures
-    ∙ ap (λ k. answered (judged (length content) k 0 (length content) d.extent.start d.extent.size.len (length c.loop-packet.tray))) c.identifier.ensures in
+    rw (c.whole.ensures, c.identifier.ensures) at c.in_err-add.ensures.says in
     refused_at input all m c.args.mark.now t c.loop-packet.tray d msg c.begin-draft.ensures.old
     c.add.new.tray i left content e c.from_residual.result _ p c.content-content.ensures says (search rules) (search rules)

@@ -8,6 +8,6 @@ pub returns : goal.returns
 returns c =
     let p = packet_bytes (item_of c.args.identifier c.args.content.now) in
     sealed_extended c.args.frame.now c.shift.new.frame p c.put_packet.new.out c.seal_frame.new.frame
-    c.content_start-old.result c.content_start-new.result c.args.have.len c.args.more.len c.seal_frame.result
-    c.args.more.most (omega (arith, c.requires.1.0)) c.put_packet.ensures c.requires.1.1 c.content_start-old.ensures c.content_start-new.ensures
-    (search rules) c.shift.ensures.size c.seal_frame.ensures.value c.seal_frame.ensures.bytes
+    _ _ c.args.have.len c.args.more.len c.seal_frame.result
+    c.args.more.most (omega (arith, c.requires.1.0)) c.put_packet.ensures c.requires.1.1 (search rules) (search rules)
+    c.shift.ensures.bytes c.shift.ensures.size c.seal_frame.ensures.value c.seal_frame.ensures.bytes
