@@ -1,5 +1,6 @@
 // A store or a sensor behind a trait object: its caller has no laws, and knows what each method says.
-ghost use Rattle.store.specs.Meaning.{ImageOrNone};
+ghost use Rattle.std.specs.Prelude.{◌≡◌, length};
+ghost use Rattle.store.specs.Meaning.{ImageOrNone, load_answer, buffer_after, save_answer, held_after, left_after};
 ghost use Rattle.sensor.specs.Ranges.{Ranged};
 
 use sensor::{Question, Sensor};
@@ -7,26 +8,36 @@ use store::{Loaded, Store, StoreError};
 
 // What is held is an image, or nothing.
 pub fn load_any(store: &mut dyn Store, buf: &mut [u8]) -> Result<Loaded, StoreError>
-    ensures { ImageOrNone (held store.old) }
+    ensures answer { result ≡ load_answer (length buf.old) (held store.old) }
+    ensures buffer { buf.new ≡ buffer_after buf.old (held store.old) }
+    ensures held { held store.new ≡ held store.old }
+    ensures left { left store.new ≡ left store.old }
+    ensures meant { ImageOrNone (held store.old) }
 {
     store.load(buf)
 }
 
 pub fn save_any(store: &mut dyn Store, image: &[u8]) -> Result<(), StoreError>
-    ensures { ImageOrNone (held store.old) }
+    ensures answer { result ≡ save_answer (length image.now) (left store.old) }
+    ensures held { held store.new ≡ held_after image.now (left store.old) (held store.old) }
+    ensures left { left store.new ≡ left_after image.now (left store.old) }
+    ensures meant { ImageOrNone (held store.old) }
 {
     store.save(image)
 }
 
 pub fn left_of_any(store: &dyn Store) -> u64
-    ensures { ImageOrNone (held store.now) }
+    ensures value { result ≡ left store.now }
+    ensures meant { ImageOrNone (held store.now) }
 {
     store.writes_left()
 }
 
 // Each number is in its channel's range.
 pub fn reading_of_any(sensor: &mut dyn Sensor, question: Question) -> Option<i64>
-    ensures { Ranged (meaning sensor.old) }
+    ensures answer { result ≡ meaning sensor.old question.channel question.index question.tick }
+    ensures stays { meaning sensor.new ≡ meaning sensor.old }
+    ensures range { Ranged (meaning sensor.old) }
 {
     sensor.reading(question)
 }
