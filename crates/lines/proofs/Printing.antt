@@ -1,6 +1,7 @@
 -- What is printed reads back.
-use Rattle.std.proofs.Common.{◌≡◌, ℕ, ◌/◌, ◌%◌, ◌<◌, List, [], ◌∷◌, ◌++◌, map, get_or, Some, IsUtf8, refl, ap, ◌∙◌, arith}
+use Rattle.std.proofs.Common.{◌≡◌, ℕ, ◌/◌, ◌%◌, ◌<◌, List, [], ◌∷◌, ◌++◌, map, get_or, Some, Result, Ok, Err, IsUtf8, refl, ap, ◌∙◌, arith}
 use Rattle.std.specs.List.{AllByRecursion}
+use Rattle.std.specs.Result.{MatchResult, IsOk}
 use Rattle.std.proofs.ByRecursion.{IsAscii-from_all}
 use Rattle.std.proofs.lemmas.Str.{IsUtf8-from_ascii}
 use Rattle.std.proofs.lemmas.Bool.{ne_eqb}
@@ -70,3 +71,8 @@ digits_ascii ds b h e = rw e (digit_ascii (b / 16) (omega arith), digit_ascii (b
 
 pub three_text : (x y z : ℕ) → x < 128 → y < 128 → z < 128 → IsUtf8 (x ∷ y ∷ z ∷ [])
 three_text x y z p q r = IsUtf8-from_ascii (x ∷ y ∷ z ∷ []) (IsAscii-from_all (x ∷ y ∷ z ∷ []) (p, (q, (r, tt))))
+
+-- what is read, and is text, is no error
+pub text_is_read : {T E U : Type 0} (P : T → Type 0) (Q : E → Type 0) (r : Result T E) → MatchResult r P (λ e. (U → ⊥) × Q e) → U → IsOk r
+text_is_read P Q (Ok x) m u = refl
+text_is_read P Q (Err e) m u = absurd (m.0 u)
