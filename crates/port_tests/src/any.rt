@@ -1,5 +1,5 @@
 // A store or a sensor behind a trait object: its caller has no laws, and knows what each method says.
-ghost use Rattle.std.specs.Prelude.{◌≡◌, length};
+ghost use Rattle.std.specs.Prelude.{◌≡◌, length, IfErr};
 ghost use Rattle.store.specs.Meaning.{ImageOrNone, load_answer, buffer_after, save_answer, held_after, left_after};
 ghost use Rattle.sensor.specs.Ranges.{Ranged};
 
@@ -12,15 +12,19 @@ pub fn load_any(store: &mut dyn Store, buf: &mut [u8]) -> Result<Loaded, StoreEr
     ensures buffer { buf.new ≡ buffer_after buf.old (held store.old) }
     ensures held { held store.new ≡ held store.old }
     ensures left { left store.new ≡ left store.old }
+    ensures memory { memory store.new ≡ memory store.old }
     ensures meant { ImageOrNone (held store.old) }
 {
     store.load(buf)
 }
 
+// What a save that is not refused makes of lent bytes is not said here: a clause over a trait object cannot name
+// `overwritten`.
 pub fn save_any(store: &mut dyn Store, image: &[u8]) -> Result<(), StoreError>
     ensures answer { result ≡ save_answer (length image.now) (left store.old) }
     ensures held { held store.new ≡ held_after image.now (left store.old) (held store.old) }
     ensures left { left store.new ≡ left_after image.now (left store.old) }
+    ensures memory { IfErr result (λ _. memory store.new ≡ memory store.old) }
     ensures meant { ImageOrNone (held store.old) }
 {
     store.save(image)
